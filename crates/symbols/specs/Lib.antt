@@ -1,0 +1,6 @@
+pub mod Symbol
+pub mod SymbolCode
+pub mod Order
+pub mod Text
+pub mod Table
+pub mod Nodes

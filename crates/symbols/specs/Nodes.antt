@@ -1,0 +1,43 @@
+-- What the nodes of a table stand for. Only the table's own code reads this file.
+use Rattle.std.specs.Prelude.{◌≡◌, ℕ, ◌+◌, ◌<◌, ◌≤◌, length, List, [], ◌∷◌, ◌++◌, map}
+use Rattle.std.specs.List.{AllByRecursion}
+use Rattle.std.specs.String.{string_bytes}
+use Rattle.symbols.specs.declared.table.Node.{Node}
+use Rattle.symbols.specs.declared.table.Node.TheVariants.{Number as NumberNode, Identifier as IdentifierNode, Text as TextNode, Function as FunctionNode}
+use Rattle.symbols.specs.Symbol.{Symbol, Number, Identifier, Text, depth}
+use Rattle.symbols.specs.Table.{applied, IsOnce}
+
+-- what a node says, its arguments read in the list
+abbrev pub symbol_of : List Symbol → Node → Symbol
+symbol_of symbols (NumberNode n) = Number n
+symbol_of symbols (IdentifierNode name) = Identifier (string_bytes name)
+symbol_of symbols (TextNode text) = Text (string_bytes text)
+symbol_of symbols (FunctionNode name args) = applied symbols (string_bytes name) args.items
+
+-- the symbols before, and then those of these nodes
+abbrev pub symbols_on : List Symbol → List Node → List Symbol
+symbols_on before [] = before
+symbols_on before (node ∷ nodes) = symbols_on (before ++ symbol_of before node ∷ []) nodes
+
+-- the symbols of a table's nodes
+abbrev pub symbols_of : List Node → List Symbol
+symbols_of nodes = symbols_on [] nodes
+
+-- the arguments of a node stand before a place
+abbrev pub IsBelow : ℕ → Node → Type 0
+IsBelow place (NumberNode n) = Unit {0}
+IsBelow place (IdentifierNode name) = Unit {0}
+IsBelow place (TextNode text) = Unit {0}
+IsBelow place (FunctionNode name args) = AllByRecursion (λ id. id < place) args.items
+
+-- the arguments of each node stand before it, the first of them at this place
+abbrev pub AreBelow : ℕ → List Node → Type 0
+AreBelow place [] = Unit {0}
+AreBelow place (node ∷ nodes) = IsBelow place node × AreBelow (place + 1) nodes
+
+-- arguments stand before their functions, no symbol stands twice, and each depth is kept beside its symbol, at most 256
+pub record IsTable (nodes : List Node) (kept : List ℕ) : Type 0 where
+  pub before : AreBelow 0 nodes
+  pub once : IsOnce (symbols_of nodes)
+  pub depths : kept ≡ map depth (symbols_of nodes)
+  pub shallow : AllByRecursion (λ n. n ≤ 256) kept

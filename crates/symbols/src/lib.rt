@@ -1,0 +1,21 @@
+//! Symbols by number, and the small types that every crate shares.
+//!
+//! A `SymbolTable` holds each symbol once: two ids of one table are equal exactly where their symbols
+//! are, and an id keeps its meaning as the table grows. `Listed` is a growable list that contracts see
+//! as a list, `Memory` the one refusal for want of memory, `Ends` the ends of all integer variables and
+//! `Rel` the six relations. Stands on `indexmap` alone.
+#![tactic(auto)]
+
+mod ends;
+mod listed;
+mod memory;
+mod rel;
+mod symbol_id;
+mod table;
+
+pub use ends::Ends;
+pub use listed::Listed;
+pub use memory::Memory;
+pub use rel::Rel;
+pub use symbol_id::SymbolId;
+pub use table::SymbolTable;
