@@ -1,0 +1,46 @@
+// Calls by number, of which those in a list fail.
+ghost use Rattle.std.specs.Prelude.{◌≡◌, ◌+◌, ◌-◌, ◌^◌, ◌≤◌, ◌↔◌, min, IsTrue, Contains, OnErr, OnOk, IsErr, IsErrOf};
+ghost use Rattle.outside_io.specs.Faults.{Rose};
+
+use crate::fault_count::FaultCount;
+use crate::files::OutFault;
+use symbols::Listed;
+
+// The calls of one object, from 1 over all kinds, and the numbers of those that fail.
+#[derive(Debug, Drop)]
+pub(crate) struct Calls {
+    failing: Listed<u64>,
+    made: u64,
+    pub(crate) faults: FaultCount,
+}
+
+impl Calls {
+    pub(crate) fn new(failing: Listed<u64>) -> Calls
+        ensures failing { result.failing ≡ failing }
+        ensures made { result.made ≡ 0 }
+        ensures faults { result.faults ≡ 0 }
+    {
+        Calls {
+            failing,
+            made: 0,
+            faults: FaultCount::new(),
+        }
+    }
+
+    // Begins one more call, and counts a fault where it is one that fails.
+    pub(crate) fn begin(&mut self) -> Result<(), OutFault>
+        ensures number { self.new.made ≡ min (self.old.made + 1) (2 ^ 64 - 1) }
+        ensures listed { IsErr result ↔ Contains self.old.failing self.new.made }
+        ensures failing { self.new.failing ≡ self.old.failing }
+        ensures faulted { OnErr result (IsErrOf result OutFault.Failed × (self.old.faults ≤ self.new.faults)
+            × Rose self.old.faults self.new.faults) }
+        ensures quiet { OnOk result (self.new.faults ≡ self.old.faults) }
+    {
+        self.made = self.made.saturating_add(1);
+        let number = self.made;
+        if self.failing.items().contains(&number) {
+            return Err(self.faults.failed());
+        }
+        Ok(())
+    }
+}
