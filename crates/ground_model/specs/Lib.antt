@@ -1,0 +1,14 @@
+pub mod Intervals
+pub mod Sound
+pub mod Members
+pub mod Rules
+pub mod Derivable
+pub mod Stable
+pub mod Rule
+pub mod Truth
+pub mod Model
+pub mod View
+pub mod Answers
+pub mod Objective
+pub mod Definite
+pub mod Printed

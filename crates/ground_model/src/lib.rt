@@ -1,0 +1,19 @@
+//! Ground programs and what they mean.
+//!
+//! A `GroundProgram` has rules over numbered atoms and integer variables; its meaning is the set of its
+//! constraint stable models, each an `Answer`. The definitions stand in `specs/`: what a rule gives, what
+//! is derivable, when a theory atom is true, what an answer costs and how it is printed. Every later layer
+//! is proved against them. Stands on `symbols`; numbers are printed by `itoa`.
+#![tactic(auto)]
+
+mod answer;
+mod int_set;
+mod linear;
+mod program;
+mod rule;
+
+pub use answer::Answer;
+pub use int_set::IntSet;
+pub use linear::{Linear, Place, Relation};
+pub use program::GroundProgram;
+pub use rule::{BodyLit, Bound, ChoiceItem, GroundChoice, GroundHead, GroundRule, TheoryHead};
