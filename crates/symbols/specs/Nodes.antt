@@ -1,5 +1,5 @@
 -- What the nodes of a table stand for. Only the table's own code reads this file.
-use Rattle.std.specs.Prelude.{◌≡◌, ℕ, ◌+◌, ◌<◌, ◌≤◌, length, List, [], ◌∷◌, ◌++◌, map}
+use Rattle.std.specs.Prelude.{◌≡◌, ℕ, ◌+◌, ◌<◌, ◌≤◌, List, [], ◌∷◌, ◌++◌, map, max, slice_index}
 use Rattle.std.specs.List.{AllByRecursion}
 use Rattle.std.specs.String.{string_bytes}
 use Rattle.symbols.specs.declared.table.Node.{Node}
@@ -34,6 +34,11 @@ IsBelow place (FunctionNode name args) = AllByRecursion (λ id. id < place) args
 abbrev pub AreBelow : ℕ → List Node → Type 0
 AreBelow place [] = Unit {0}
 AreBelow place (node ∷ nodes) = IsBelow place node × AreBelow (place + 1) nodes
+
+-- the greatest of the depths that are kept at these places, 0 where there is none
+abbrev pub deepest_at : List ℕ → List ℕ → ℕ
+deepest_at kept [] = 0
+deepest_at kept (place ∷ places) = max (slice_index kept place) (deepest_at kept places)
 
 -- arguments stand before their functions, no symbol stands twice, and each depth is kept beside its symbol, at most 256
 pub record IsTable (nodes : List Node) (kept : List ℕ) : Type 0 where

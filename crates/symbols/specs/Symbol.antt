@@ -1,5 +1,5 @@
 -- What a symbol is.
-use Rattle.std.specs.Prelude.{ℕ, suc, ◌+◌, max, ℤ, List, [], ◌∷◌}
+use Rattle.std.specs.Prelude.{ℕ, suc, max, ℤ, List, [], ◌∷◌}
 
 mutual
   -- a 32-bit number, an identifier, a text, or a name with arguments; a tuple is a function whose name is empty

@@ -11,6 +11,7 @@ mod listed;
 mod memory;
 mod rel;
 mod symbol_id;
+mod symbol_stop;
 mod table;
 
 pub use ends::Ends;
@@ -18,4 +19,5 @@ pub use listed::Listed;
 pub use memory::Memory;
 pub use rel::Rel;
 pub use symbol_id::SymbolId;
+pub use symbol_stop::SymbolStop;
 pub use table::SymbolTable;

@@ -1,11 +1,21 @@
 // The table of symbols: each symbol stands in it once, and its place is its id.
-ghost use Rattle.std.specs.Prelude.{◌≡◌, [], IfOk};
+ghost use Rattle.std.specs.Prelude.{◌≡◌, ◌<◌, ◌≤◌, ◌+◌, [], length, Some, slice_get, OnOk, OnErr, IfOk, All};
+ghost use Rattle.symbols.specs.Symbol.{depth, Number, Identifier, Text};
+ghost use Rattle.symbols.specs.Table.{IsFront, IsOnce, applied};
+ghost use Rattle.symbols.specs.Nodes.{symbols_of, symbol_of, IsBelow, IsTable, deepest_at};
 
 use crate::memory::Memory;
 use crate::symbol_id::SymbolId;
+use crate::symbol_stop::SymbolStop;
 use indexmap::IndexSet;
 use std::alloc::Global;
 use std::marker::Model;
+
+// The most symbols of a table, so that each place is a `u32`.
+const MOST: usize = 4_294_967_295;
+
+// How deep functions and tuples may nest.
+const DEEPEST: u16 = 256;
 
 // One layer of a symbol: its arguments are the ids of symbols before it.
 #[derive(Debug, PartialEq, Eq, Hash, Drop)]
@@ -17,11 +27,14 @@ pub(crate) enum Node {
 }
 
 /// Symbols, each of them once. Clauses see the table as the list of its symbols, where an id is a place.
+///
+/// A symbol is found or made in time linear in its name and its arguments. A table holds at most
+/// 4,294,967,295 symbols: one more is answered as a want of memory.
 #[derive(Debug, Drop)]
 pub struct SymbolTable {
-    alloc: Global,
-    nodes: IndexSet<Node>,
-    depths: Vec<u16>,
+    pub(crate) alloc: Global,
+    pub(crate) nodes: IndexSet<Node>,
+    pub(crate) depths: Vec<u16>,
 }
 
 impl Model for SymbolTable {
@@ -52,4 +65,113 @@ impl SymbolTable {
             depths: Vec::new(alloc),
         })
     }
+
+    /// How many symbols there are.
+    pub fn len(&self) -> usize
+        ensures { result ≡ length self.now }
+    {
+        self.nodes.len()
+    }
+
+    /// The id of a number.
+    pub fn number(&mut self, n: i32) -> Result<SymbolId, Memory>
+        ensures id { IfOk result (λ id. slice_get self.new id ≡ Some (Number n)) }
+        ensures kept { OnOk result (IsFront self.old self.new) }
+        ensures once { IsOnce self.new }
+        ensures err { OnErr result (self.new ≡ self.old) }
+    {
+        place_in(&mut self.nodes, &mut self.depths, Node::Number(n), 0)
+    }
+
+    /// The id of an identifier.
+    pub fn identifier(&mut self, name: &str) -> Result<SymbolId, Memory>
+        ensures id { IfOk result (λ id. slice_get self.new id ≡ Some (Identifier name.now)) }
+        ensures kept { OnOk result (IsFront self.old self.new) }
+        ensures once { IsOnce self.new }
+        ensures err { OnErr result (self.new ≡ self.old) }
+    {
+        let name = String::from_str(self.alloc, name)?;
+        place_in(&mut self.nodes, &mut self.depths, Node::Identifier(name), 0)
+    }
+
+    /// The id of a text.
+    pub fn text(&mut self, text: &str) -> Result<SymbolId, Memory>
+        ensures id { IfOk result (λ id. slice_get self.new id ≡ Some (Text text.now)) }
+        ensures kept { OnOk result (IsFront self.old self.new) }
+        ensures once { IsOnce self.new }
+        ensures err { OnErr result (self.new ≡ self.old) }
+    {
+        let text = String::from_str(self.alloc, text)?;
+        place_in(&mut self.nodes, &mut self.depths, Node::Text(text), 0)
+    }
+
+    /// The id of a name with arguments, or of a tuple, whose name is empty.
+    pub fn function(&mut self, name: &str, args: &[SymbolId]) -> Result<SymbolId, SymbolStop>
+        requires args { All (λ id. id < length self.old) args.now }
+        requires named { args.now ≡ [] → name.now ≡ [] }
+        ensures id { IfOk result (λ id. slice_get self.new id ≡ Some (applied self.old name.now args.now)) }
+        ensures kept { OnOk result (IsFront self.old self.new) }
+        ensures once { IsOnce self.new }
+        ensures too_deep { result ≡ Err SymbolStop.TooDeep → 256 < depth (applied self.old name.now args.now) }
+        ensures fits { OnOk result (depth (applied self.old name.now args.now) ≤ 256) }
+        ensures err { OnErr result (self.new ≡ self.old) }
+    {
+        let below = deepest_of(&self.depths, args);
+        if below >= DEEPEST {
+            return Err(SymbolStop::TooDeep);
+        }
+        let name = String::from_str(self.alloc, name)?;
+        let args = Vec::from_slice(self.alloc, args)?;
+        match place_in(
+            &mut self.nodes,
+            &mut self.depths,
+            Node::Function(name, args),
+            below + 1,
+        ) {
+            Ok(id) => Ok(id),
+            Err(Memory) => Err(SymbolStop::Memory),
+        }
+    }
+}
+
+// The greatest depth among symbols, 0 where there are none.
+fn deepest_of(depths: &[u16], symbols: &[SymbolId]) -> u16
+    requires { All (λ id. id < length depths.now) symbols.now }
+    ensures { result ≡ deepest_at depths.now symbols.now }
+{
+    let mut deepest = 0;
+    for symbol in symbols {
+        deepest = depths[symbol.place()].max(deepest);
+    }
+    deepest
+}
+
+// The place of a node of this depth, which it has already or takes at the end.
+fn place_in(
+    nodes: &mut IndexSet<Node>,
+    depths: &mut Vec<u16>,
+    node: Node,
+    level: u16,
+) -> Result<SymbolId, Memory>
+    requires table { IsTable nodes.old.keys depths.old.items }
+    requires below { IsBelow (length nodes.old.keys) node }
+    requires level { level ≡ depth (symbol_of (symbols_of nodes.old.keys) node) }
+    requires fits { level ≤ 256 }
+    ensures id { IfOk result (λ id. slice_get (symbols_of nodes.new.keys) id
+        ≡ Some (symbol_of (symbols_of nodes.old.keys) node)) }
+    ensures kept { OnOk result (IsFront (symbols_of nodes.old.keys) (symbols_of nodes.new.keys)) }
+    ensures table { IsTable nodes.new.keys depths.new.items }
+    ensures err { OnErr result (nodes.new.keys ≡ nodes.old.keys) }
+{
+    if nodes.len() >= MOST {
+        return Err(Memory);
+    }
+    depths.reserve(1)?;
+    let (place, added) = nodes.insert_full(node)?;
+    let id = SymbolId::at(place as u32);
+    if !added {
+        return Ok(id);
+    }
+    depths.push(level)?;
+    Ok(id)
 }
