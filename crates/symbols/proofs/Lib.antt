@@ -1,2 +1,4 @@
 pub mod NodeLemmas
 pub mod OnceLemmas
+pub mod OrderLemmas
+pub mod CompareLemmas

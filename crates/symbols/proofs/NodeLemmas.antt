@@ -1,7 +1,7 @@
 -- Laws of what the nodes of a table stand for.
 use Rattle.std.proofs.Common.{◌≡◌, ℕ, zero, suc, ◌+◌, ◌<◌, max, List, [], ◌∷◌, ◌++◌, length, map, get_or, Some, refl, sym, ap, ◌∙◌, subst, arith, append_assoc, append-nil, length-append, slice_get, pos, add-zero, zero-add}
 use Rattle.std.proofs.lemmas.List.{get_or_append_left}
-use Rattle.std.proofs.lemmas.Option.{slice_get-get_or, slice_get_within}
+use Rattle.std.proofs.lemmas.Option.{slice_get-get_or, slice_get_within, get_or_from_slice_get}
 use Rattle.std.proofs.Math.Seq.{get_or-append_seam}
 use Rattle.std.specs.List.{AllByRecursion, All}
 use Rattle.std.proofs.lemmas.List.Elements.{recursion_from_All}
@@ -143,3 +143,15 @@ pub found-deepest : (nodes : List Node) (kept slice : List ℕ) (symbols : List 
     → kept ≡ map depth (symbols_of nodes) → All (λ id. id < length symbols) given → slice ≡ kept → found ≡ deepest_at slice given → found ≡ deepest (symbols_at symbols given)
 found-deepest nodes kept slice symbols given found view depths h same e =
     e ∙ ap (λ l. deepest_at l given) same ∙ deepest-args nodes kept symbols given view depths h
+
+-- an id of the table is a place of its nodes
+pub place-within : (nodes : List Node) (symbols : List Symbol) (id place : ℕ) → symbols_of nodes ≡ symbols → place ≡ id → id < length symbols → place < length nodes
+place-within nodes symbols id place view same h = omega (arith, length-symbols_of nodes, ap length view)
+
+-- the symbol of an id is that of its node
+pub symbol_at-id : (nodes : List Node) (symbols : List Symbol) (id place : ℕ) (node : Node) → symbols_of nodes ≡ symbols → AreBelow 0 nodes → place ≡ id → slice_get nodes place ≡ Some node
+    → symbol_at symbols id ≡ symbol_of symbols node
+symbol_at-id nodes symbols id place node view below same e =
+    let P : List Symbol → Type 0 = λ l. symbol_at l id ≡ symbol_of l node in
+    subst P view (ap (symbol_at (symbols_of nodes)) (sym same)
+    ∙ get_or_from_slice_get (symbols_of nodes) place (symbol_of (symbols_of nodes) node) (Number (pos 0)) (slice_get-symbols_of nodes place node below e))

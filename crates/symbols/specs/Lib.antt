@@ -4,3 +4,4 @@ pub mod Order
 pub mod Text
 pub mod Table
 pub mod Nodes
+pub mod View

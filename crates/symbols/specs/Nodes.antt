@@ -1,6 +1,9 @@
 -- What the nodes of a table stand for. Only the table's own code reads this file.
-use Rattle.std.specs.Prelude.{◌≡◌, ℕ, ◌+◌, ◌<◌, ◌≤◌, List, [], ◌∷◌, ◌++◌, map, max, slice_index}
+use Rattle.std.specs.Prelude.{◌≡◌, ℕ, ◌+◌, ◌<◌, ◌≤◌, length, List, [], ◌∷◌, ◌++◌, map, max, slice_index, Option, Some, None, ◌==◌, if◌then◌else◌}
 use Rattle.std.specs.List.{AllByRecursion}
+use Rattle.std.specs.Ordering.{nat_cmp, int_cmp, ordering_then}
+use Rattle.std.specs.declared.cmp.Ordering.{Ordering}
+use Rattle.std.specs.Cmp.Lexicographic.{slice_cmp}
 use Rattle.std.specs.String.{string_bytes}
 use Rattle.symbols.specs.declared.table.Node.{Node}
 use Rattle.symbols.specs.declared.table.Node.TheVariants.{Number as NumberNode, Identifier as IdentifierNode, Text as TextNode, Function as FunctionNode}
@@ -46,3 +49,32 @@ pub record IsTable (nodes : List Node) (kept : List ℕ) : Type 0 where
   pub once : IsOnce (symbols_of nodes)
   pub depths : kept ≡ map depth (symbols_of nodes)
   pub shallow : AllByRecursion (λ n. n ≤ 256) kept
+
+-- the arguments of a node, none where it is no function
+abbrev pub args_in : Node → List ℕ
+args_in (NumberNode n) = []
+args_in (IdentifierNode name) = []
+args_in (TextNode text) = []
+args_in (FunctionNode name args) = args.items
+
+-- where a kind of nodes stands in the order
+abbrev pub kind_of : Node → ℕ
+kind_of (NumberNode n) = 0
+kind_of (IdentifierNode name) = 1
+kind_of (TextNode text) = 2
+kind_of (FunctionNode name args) = 3
+
+-- how a node stands to another, but for the arguments themselves
+abbrev pub heads_cmp : Node → Node → Ordering
+heads_cmp (NumberNode m) (NumberNode n) = int_cmp m n
+heads_cmp (IdentifierNode a) (IdentifierNode b) = slice_cmp nat_cmp (string_bytes a) (string_bytes b)
+heads_cmp (TextNode a) (TextNode b) = slice_cmp nat_cmp (string_bytes a) (string_bytes b)
+heads_cmp (FunctionNode a xs) (FunctionNode b ys) =
+    ordering_then (nat_cmp (length xs.items) (length ys.items)) (slice_cmp nat_cmp (string_bytes a) (string_bytes b))
+heads_cmp a b = nat_cmp (kind_of a) (kind_of b)
+
+-- the first two at one place that differ
+abbrev pub first_apart : List ℕ → List ℕ → Option (ℕ × ℕ)
+first_apart [] ys = None
+first_apart (x ∷ xs) [] = None
+first_apart (x ∷ xs) (y ∷ ys) = (if x == y then first_apart xs ys else Some (x, y))

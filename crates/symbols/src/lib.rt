@@ -9,15 +9,19 @@
 mod ends;
 mod listed;
 mod memory;
+mod order;
 mod rel;
 mod symbol_id;
 mod symbol_stop;
+mod symbol_view;
 mod table;
 
 pub use ends::Ends;
 pub use listed::Listed;
 pub use memory::Memory;
+pub use order::symbols_are_ordered;
 pub use rel::Rel;
 pub use symbol_id::SymbolId;
 pub use symbol_stop::SymbolStop;
+pub use symbol_view::SymbolView;
 pub use table::SymbolTable;
