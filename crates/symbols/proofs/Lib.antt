@@ -2,3 +2,4 @@ pub mod NodeLemmas
 pub mod OnceLemmas
 pub mod OrderLemmas
 pub mod CompareLemmas
+pub mod WriteLemmas

@@ -1,5 +1,5 @@
 -- What the nodes of a table stand for. Only the table's own code reads this file.
-use Rattle.std.specs.Prelude.{◌≡◌, ℕ, ◌+◌, ◌<◌, ◌≤◌, length, List, [], ◌∷◌, ◌++◌, map, max, slice_index, Option, Some, None, ◌==◌, if◌then◌else◌}
+use Rattle.std.specs.Prelude.{◌≡◌, ℕ, ◌+◌, ◌<◌, ◌≤◌, length, List, [], ◌∷◌, ◌++◌, map, max, slice_index, Option, Some, None, ◌==◌, if◌then◌else◌, codes}
 use Rattle.std.specs.List.{AllByRecursion}
 use Rattle.std.specs.Ordering.{nat_cmp, int_cmp, ordering_then}
 use Rattle.std.specs.declared.cmp.Ordering.{Ordering}
@@ -78,3 +78,7 @@ abbrev pub first_apart : List ℕ → List ℕ → Option (ℕ × ℕ)
 first_apart [] ys = None
 first_apart (x ∷ xs) [] = None
 first_apart (x ∷ xs) (y ∷ ys) = (if x == y then first_apart xs ys else Some (x, y))
+
+-- what stands before an argument, by its place: a comma, but for the first
+abbrev pub separator : ℕ → List ℕ
+separator index = (if index == 0 then [] else codes ",")

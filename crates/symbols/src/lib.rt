@@ -15,6 +15,7 @@ mod symbol_id;
 mod symbol_stop;
 mod symbol_view;
 mod table;
+mod write;
 
 pub use ends::Ends;
 pub use listed::Listed;

@@ -1,0 +1,13 @@
+use Rattle.std.proofs.Common.{◌≡◌, ◌++◌, drop}
+use Rattle.symbols.specs.Table.{symbols_at}
+use Rattle.symbols.specs.Text.{args_text}
+use Rattle.symbols.specs.Nodes.{symbols_of}
+use Rattle.symbols.proofs.WriteLemmas.{tail_text}
+use Rattle.symbols.proofs.write.+write_place.Given as goal
+
+abbrev pub decreases-write_place : goal.decreases-write_place
+decreases-write_place l = l.place
+
+abbrev pub invariant-loop-index : goal.invariant-loop-index
+invariant-loop-index l =
+    l.out ++ tail_text l.index (symbols_at (symbols_of l.nodes.keys) (drop l.index l.arg-items)) ≡ l.initial.out ++ args_text (symbols_at (symbols_of l.nodes.keys) l.arg-items)
