@@ -1,6 +1,6 @@
 // Calls by number, of which those in a list fail.
-ghost use Rattle.std.specs.Prelude.{◌≡◌, ◌+◌, ◌-◌, ◌^◌, ◌≤◌, ◌↔◌, min, IsTrue, Contains, OnErr, OnOk, IsErr, IsErrOf};
-ghost use Rattle.outside_io.specs.Faults.{Rose};
+ghost use Rattle.std.specs.Prelude.{◌≡◌, ◌+◌, ◌-◌, ◌^◌, ◌↔◌, min, Contains, OnErr, IsErr, IsErrOf};
+ghost use Rattle.outside_io.specs.Faults.{RisesWhere};
 
 use crate::fault_count::FaultCount;
 use crate::files::OutFault;
@@ -32,9 +32,8 @@ impl Calls {
         ensures number { self.new.made ≡ min (self.old.made + 1) (2 ^ 64 - 1) }
         ensures listed { IsErr result ↔ Contains self.old.failing self.new.made }
         ensures failing { self.new.failing ≡ self.old.failing }
-        ensures faulted { OnErr result (IsErrOf result OutFault.Failed × (self.old.faults ≤ self.new.faults)
-            × Rose self.old.faults self.new.faults) }
-        ensures quiet { OnOk result (self.new.faults ≡ self.old.faults) }
+        ensures answer { OnErr result (IsErrOf result OutFault.Failed) }
+        ensures cause { RisesWhere (IsErrOf result OutFault.Failed) self.old.faults self.new.faults }
     {
         self.made = self.made.saturating_add(1);
         let number = self.made;

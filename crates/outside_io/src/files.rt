@@ -6,6 +6,8 @@ ghost use Rattle.std.specs.Io.KnownBytes.{ReadConsumes};
 ghost use Rattle.outside_io.specs.Faults.{RisesWhere};
 ghost use Rattle.outside_io.specs.Told.{LeavesAll};
 
+use symbols::Memory;
+
 /// Why a call of the outside was refused. A refused call changes nothing but the count of faults.
 #[derive(Clone, Copy, Debug, PartialEq, Eq)]
 pub enum OutFault {
@@ -13,6 +15,16 @@ pub enum OutFault {
     Failed,
     /// Memory could not be had.
     Memory,
+}
+
+impl From<Memory> for OutFault {
+    ghost use Rattle.outside_io.specs.declared.files.OutFault.TheVariants.{Memory as MemoryFault};
+
+    ghost from_gives = { λ _ fault. fault ≡ MemoryFault };
+
+    fn from(_: Memory) -> Self {
+        OutFault::Memory
+    }
 }
 
 /// Inputs that are opened by name.

@@ -30,6 +30,7 @@ impl MemoryFiles {
     ) -> Result<MemoryFiles, Memory>
         ensures texts { IfOk result (λ made. ⟦<MemoryFiles as Files>⟧.text made ≡ held_under files) }
         ensures closed { IfOk result (λ made. ⟦<MemoryFiles as Files>⟧.left made ≡ Some []) }
+        ensures untaken { IfOk result (λ made. ⟦<MemoryFiles as Files>⟧.taken made ≡ 0) }
         ensures quiet { IfOk result (λ made. ⟦<MemoryFiles as Files>⟧.faults made ≡ 0) }
     {
         Ok(MemoryFiles {
@@ -52,24 +53,17 @@ impl Files for MemoryFiles {
     ghost faults = { λ m. m.calls.faults };
 
     fn open_file(&mut self, name: &str) -> Result<(), OutFault> {
-        if let Err(fault) = self.calls.begin() {
-            return Err(fault);
-        }
+        self.calls.begin()?;
         let Some(file) = entry(self.files.items(), name.as_bytes()) else {
             return Err(self.calls.faults.failed());
         };
-        let Ok(bytes) = Listed::from_slice(self.alloc, file.bytes.items()) else {
-            return Err(OutFault::Memory);
-        };
-        self.opened = bytes;
+        self.opened = Listed::from_slice(self.alloc, file.bytes.items())?;
         self.at = 0;
         Ok(())
     }
 
     fn read(&mut self, buf: &mut [u8]) -> Result<usize, OutFault> {
-        if let Err(fault) = self.calls.begin() {
-            return Err(fault);
-        }
+        self.calls.begin()?;
         let count = copy_front(&self.opened.items()[self.at..], buf);
         self.at += count;
         Ok(count)

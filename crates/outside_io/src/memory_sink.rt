@@ -67,38 +67,25 @@ impl Sink for MemorySink {
     ghost faults = { λ m. m.calls.faults };
 
     fn open_sink(&mut self, name: Option<&str>) -> Result<(), OutFault> {
-        if let Err(fault) = self.calls.begin() {
-            return Err(fault);
-        }
+        self.calls.begin()?;
         let kept = match name {
             None => None,
-            Some(name) => match Listed::from_slice(self.alloc, name.as_bytes()) {
-                Ok(kept) => Some(kept),
-                Err(Memory) => return Err(OutFault::Memory),
-            },
+            Some(name) => Some(Listed::from_slice(self.alloc, name.as_bytes())?),
         };
-        if self.names.push(kept).is_err() {
-            return Err(OutFault::Memory);
-        }
+        self.names.push(kept)?;
         self.written = Listed::new(self.alloc);
         self.flushed = 0;
         Ok(())
     }
 
     fn write(&mut self, piece: &[u8]) -> Result<usize, OutFault> {
-        if let Err(fault) = self.calls.begin() {
-            return Err(fault);
-        }
-        if self.written.append(piece).is_err() {
-            return Err(OutFault::Memory);
-        }
+        self.calls.begin()?;
+        self.written.append(piece)?;
         Ok(piece.len())
     }
 
     fn flush(&mut self) -> Result<(), OutFault> {
-        if let Err(fault) = self.calls.begin() {
-            return Err(fault);
-        }
+        self.calls.begin()?;
         self.flushed = self.written.len();
         Ok(())
     }
