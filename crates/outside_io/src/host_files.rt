@@ -48,17 +48,14 @@ impl<'a, R: rt::Files + Input> Files for HostFiles<'a, R> {
     fn open_file(&mut self, name: &str) -> Result<(), OutFault> {
         if name == "-" {
             self.source = Source::Standard(self.rt.reader());
-            self.taken = 0;
-            return Ok(());
+        } else {
+            let Ok(file) = fs::open(self.rt, name) else {
+                return Err(self.faults.failed());
+            };
+            self.source = Source::Named(file);
         }
-        match fs::open(self.rt, name) {
-            Ok(file) => {
-                self.source = Source::Named(file);
-                self.taken = 0;
-                Ok(())
-            }
-            Err(_) => Err(self.faults.failed()),
-        }
+        self.taken = 0;
+        Ok(())
     }
 
     /// Fails also where one input has given more bytes than 64 bits count.

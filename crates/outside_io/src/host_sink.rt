@@ -55,13 +55,11 @@ impl<'a, R: rt::Files + Print> Sink for HostSink<'a, R> {
             self.target = Target::Nothing;
             return Ok(());
         };
-        match fs::create(self.rt, name) {
-            Ok(file) => {
-                self.target = Target::Named(file);
-                Ok(())
-            }
-            Err(_) => Err(self.faults.failed()),
-        }
+        let Ok(file) = fs::create(self.rt, name) else {
+            return Err(self.faults.failed());
+        };
+        self.target = Target::Named(file);
+        Ok(())
     }
 
     fn write(&mut self, piece: &[u8]) -> Result<usize, OutFault> {
