@@ -1,0 +1,5 @@
+pub mod ByteLemmas
+pub mod FormLemmas
+pub mod LexemeLemmas
+pub mod NumberLemmas
+pub mod PartLemmas

@@ -1,0 +1,63 @@
+-- The value of digits, read from the front.
+use Rattle.std.proofs.Common.{◌≡◌, ℕ, ◌+◌, ◌*◌, ◌-◌, ◌<◌, ◌≤◌, ◌^◌, true, false, List, [], ◌∷◌, drop, length, get_or, refl, subst, arith, add-one, drop-cons}
+use Rattle.std.specs.List.{list_all}
+use Rattle.std.specs.Char.{digit_value}
+use Rattle.std.specs.Str.Parse.{digits_value, digits_value_after}
+use Rattle.std.proofs.lemmas.Bool.{and_parts, le-leb, lt-leb}
+use Rattle.std.proofs.lemmas.List.{drop_all}
+use Rattle.std.proofs.lemmas.Bool.Decides.{nat_tests}
+use Rattle.lexer.specs.Bytes.{is_digit}
+use Rattle.lexer.specs.Forms.{is_too_large}
+
+pub value_of_digit : (b : ℕ) → is_digit b ≡ true → digit_value b ≡ b - 48
+value_of_digit b h = grind (arith, nat_tests)
+
+-- further digits make no number smaller
+pub value_grows : (n : ℕ) (digits : List ℕ) → n ≤ digits_value_after 10 n digits
+value_grows n [] = omega arith
+value_grows n (d ∷ ds) =
+    let more = value_grows (n * 10 + digit_value d) ds in
+    omega arith
+
+-- what is left of the digits, where the first of them was read up to a value
+pub record ValueLeft (digits left : List ℕ) (value : ℕ) : Type 0 where
+  pub small : value < 2 ^ 31
+  pub same : digits_value_after 10 value left ≡ digits_value 10 digits
+  pub all : list_all is_digit left ≡ true
+
+module _ (digits : List ℕ) (i value : ℕ) (within : i < length digits) (left : ValueLeft digits (drop i digits) value) where
+  abbrev d : ℕ
+  d = get_or digits i 0
+
+  split : drop i digits ≡ d ∷ drop (i + 1) digits
+  split = rw (add-one, drop-cons digits i 0) refl
+
+  all_here : list_all is_digit (d ∷ drop (i + 1) digits) ≡ true
+  all_here = rw split at left.all
+
+  pub digit_here : is_digit d ≡ true
+  digit_here = (and_parts (is_digit d) (list_all is_digit (drop (i + 1) digits)) all_here).0
+
+  same_here : digits_value_after 10 (value * 10 + (d - 48)) (drop (i + 1) digits) ≡ digits_value 10 digits
+  same_here =
+      let before : digits_value_after 10 value (d ∷ drop (i + 1) digits) ≡ digits_value 10 digits = rw split at left.same in
+      let P : ℕ → Type 0 = λ v. digits_value_after 10 (value * 10 + v) (drop (i + 1) digits) ≡ digits_value 10 digits in
+      subst P (value_of_digit d digit_here) before
+
+  pub value_next : value * 10 + (d - 48) < 2 ^ 31 → ValueLeft digits (drop (i + 1) digits) (value * 10 + (d - 48))
+  value_next l = record {
+    small = l;
+    same = same_here;
+    all = (and_parts (is_digit d) (list_all is_digit (drop (i + 1) digits)) all_here).1;
+  }
+
+  pub value_passed : 2 ^ 31 ≤ value * 10 + (d - 48) → is_too_large digits ≡ true
+  value_passed l =
+      let more = value_grows (value * 10 + (d - 48)) (drop (i + 1) digits) in
+      le-leb (2 ^ 31) (digits_value 10 digits) (omega (arith, same_here))
+
+pub value_ends : (digits : List ℕ) (i value : ℕ) → length digits ≤ i → ValueLeft digits (drop i digits) value → is_too_large digits ≡ false
+value_ends digits i value l left =
+    let e : drop i digits ≡ [] = drop_all i digits l in
+    let same : value ≡ digits_value 10 digits = rw e at left.same in
+    lt-leb (2 ^ 31) (digits_value 10 digits) (omega (arith, same, left.small))

@@ -1,0 +1,5 @@
+pub mod Bytes
+pub mod Forms
+pub mod Parts
+pub mod Faults
+pub mod Lexeme

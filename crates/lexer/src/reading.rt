@@ -1,0 +1,96 @@
+// The tokens of a text.
+ghost use Rattle.std.specs.Prelude.{◌≡◌, ◌+◌, ◌≤◌, ◌<◌, ◌^◌, ◌++◌, length, IfOk, OnOk};
+ghost use Rattle.lexer.specs.Parts.{IsTokenisation};
+ghost use Rattle.lexer.specs.Faults.{IfFault, IsFirstFault};
+ghost use Rattle.lexer.specs.Lexeme.{token_at};
+
+use crate::lexeme::{Lexeme, next_lexeme};
+use crate::token::{LexFault, LexStop, Token};
+use std::alloc::Global;
+use symbols::{Listed, Memory};
+
+// Adds the token that a lexeme is, if it is one.
+fn push_token(tokens: &mut Listed<Token>, at: usize, lexeme: Lexeme) -> Result<(), Memory>
+    requires { at + lexeme.length < 2 ^ 64 }
+    ensures { OnOk result (tokens.new ≡ tokens.old ++ token_at at lexeme.kind lexeme.length) }
+{
+    match lexeme.kind {
+        Some(kind) => tokens.push(Token {
+            kind,
+            start: at,
+            end: at + lexeme.length,
+        }),
+        None => Ok(()),
+    }
+}
+
+/// The tokens of a text, or its first fault. Time is linear in the text.
+pub fn tokens(alloc: Global, text: &[u8]) -> Result<Listed<Token>, LexStop>
+    ensures ok { IfOk result (λ tokens. IsTokenisation text.now tokens) }
+    ensures fault { IfFault result (λ fault. IsFirstFault text.now fault) }
+{
+    let mut tokens = Listed::new(alloc);
+    let mut rest = text;
+    while !rest.is_empty() {
+        let at = text.len() - rest.len();
+        match next_lexeme(rest) {
+            Ok(lexeme) => {
+                push_token(&mut tokens, at, lexeme)?;
+                rest = rest.split_at(lexeme.length).1;
+            }
+            Err(fault) => {
+                return Err(LexStop::Fault(LexFault {
+                    at: at + fault.at,
+                    cause: fault.cause,
+                }));
+            }
+        }
+    }
+    Ok(tokens)
+}
+
+#[cfg(test)]
+mod tests {
+    use super::*;
+    use crate::token::{LexCause, TokenKind};
+
+    // The first fault of a text.
+    fn fault(alloc: Global, text: &str) -> Option<(usize, LexCause)> {
+        match tokens(alloc, text.as_bytes()) {
+            Err(LexStop::Fault(fault)) => Some((fault.at, fault.cause)),
+            _ => None,
+        }
+    }
+
+    #[test]
+    fn reads_a_rule(rt: HostRuntime) {
+        let text = "not_a' :- __b(0,21),\n\tnot.";
+        let wanted = [
+            (TokenKind::Id, 0, 6),
+            (TokenKind::Mark, 7, 9),
+            (TokenKind::Id, 10, 13),
+            (TokenKind::Mark, 13, 14),
+            (TokenKind::Num, 14, 15),
+            (TokenKind::Mark, 15, 16),
+            (TokenKind::Num, 16, 18),
+            (TokenKind::Mark, 18, 19),
+            (TokenKind::Mark, 19, 20),
+            (TokenKind::NotWord, 22, 25),
+            (TokenKind::Mark, 25, 26),
+        ];
+        let found = tokens(rt.alloc(), text.as_bytes()).unwrap();
+        assert!(rt; found.len() == wanted.len());
+        for (token, (kind, start, end)) in found.items().iter().zip(wanted) {
+            assert!(rt; token.kind == kind && token.start == start && token.end == end);
+        }
+    }
+
+    #[test]
+    fn finds_the_first_fault(rt: HostRuntime) {
+        let alloc = rt.alloc();
+        assert!(rt; fault(alloc, "p(01).") == Some((3, LexCause::BadCharacter)));
+        assert!(rt; fault(alloc, "p(2147483647).").is_none());
+        assert!(rt; fault(alloc, "p(2147483648).") == Some((2, LexCause::NumberTooLarge)));
+        assert!(rt; fault(alloc, "a :\n- b") == Some((2, LexCause::BadCharacter)));
+    }
+}
