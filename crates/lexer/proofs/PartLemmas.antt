@@ -1,5 +1,5 @@
 -- Parts one after the other, up to a place.
-use Rattle.std.proofs.Common.{◌≡◌, ℕ, ◌+◌, ◌-◌, ◌<◌, ◌≤◌, true, List, [], ◌∷◌, ◌++◌, length, drop, refl, sym, ap, subst, ◌∙◌, inl, inr, arith, append_assoc, length-append}
+use Rattle.std.proofs.Common.{Bool, true, ◌≡◌, ℕ, ◌+◌, ◌-◌, ◌<◌, ◌≤◌, true, List, [], ◌∷◌, ◌++◌, length, drop, refl, sym, ap, subst, ◌∙◌, inl, inr, arith, append_assoc, length-append}
 use Rattle.std.proofs.lemmas.List.{append-nil, drop_at}
 use Rattle.lexer.specs.declared.token.Token.{Token}
 use Rattle.lexer.specs.declared.token.LexCause.{LexCause}
@@ -10,7 +10,9 @@ use Rattle.lexer.specs.Parts.{Part, blank, token, part_bytes, part_tokens, parts
 use Rattle.lexer.specs.Faults.{HasFault, IsFirstFault}
 use Rattle.lexer.specs.Lexeme.{IsLexeme, part_kind, token_at}
 use Rattle.lexer.proofs.FormLemmas.{no_form_nil}
-use Rattle.std.proofs.lemmas.Bool.{both_ways}
+use Rattle.std.proofs.lemmas.Bool.{both_ways, eqb-true}
+use Rattle.std.proofs.lemmas.List.{nil_from_length}
+use Rattle.std.specs.Bool.{◌==◌}
 
 pub parts_text-rest : (parts : List Part) (rest : List ℕ) → parts_text parts rest ≡ parts_text parts [] ++ rest
 parts_text-rest [] rest = refl
@@ -124,3 +126,6 @@ fault_within BadCharacter on rest l (inr h) =
     let sum : length rest ≡ length h.1.digits + length h.1.behind = ap length h.1.begins ∙ length-append h.1.digits h.1.behind in
     omega (arith, h.0)
 fault_within NumberTooLarge on rest l h = omega (arith, h.0)
+
+pub all_read_empty : (text : List ℕ) (tokens : List Token) (rest : List ℕ) (empty : Bool) → ReadSoFar text tokens rest → empty ≡ (length rest == 0) → empty ≡ true → IsTokenisation text tokens
+all_read_empty text tokens rest empty read e h = all_read text tokens rest read (nil_from_length rest (eqb-true (length rest) 0 (sym e ∙ h)))

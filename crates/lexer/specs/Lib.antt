@@ -1,5 +1,6 @@
 pub mod Bytes
 pub mod Forms
 pub mod Parts
+pub mod Tokens
 pub mod Faults
 pub mod Lexeme

@@ -5,9 +5,11 @@
 #![tactic(auto)]
 
 mod bytes;
+mod law;
 mod lexeme;
 mod reading;
 mod token;
 
+pub use law::one_answer;
 pub use reading::tokens;
 pub use token::{LexCause, LexFault, LexStop, Token, TokenKind};

@@ -1,6 +1,8 @@
 // The tokens of a text.
 ghost use Rattle.std.specs.Prelude.{◌≡◌, ◌+◌, ◌≤◌, ◌<◌, ◌^◌, ◌++◌, length, IfOk, OnOk};
+ghost use Rattle.std.specs.List.{All};
 ghost use Rattle.lexer.specs.Parts.{IsTokenisation};
+ghost use Rattle.lexer.specs.Tokens.{IsTokenOf, IsInOrder};
 ghost use Rattle.lexer.specs.Faults.{IfFault, IsFirstFault};
 ghost use Rattle.lexer.specs.Lexeme.{token_at};
 
@@ -27,6 +29,8 @@ fn push_token(tokens: &mut Listed<Token>, at: usize, lexeme: Lexeme) -> Result<(
 /// The tokens of a text, or its first fault. Time is linear in the text.
 pub fn tokens(alloc: Global, text: &[u8]) -> Result<Listed<Token>, LexStop>
     ensures ok { IfOk result (λ tokens. IsTokenisation text.now tokens) }
+    ensures each { IfOk result (λ tokens. All (IsTokenOf text.now) tokens) }
+    ensures order { IfOk result (λ tokens. IsInOrder 0 tokens) }
     ensures fault { IfFault result (λ fault. IsFirstFault text.now fault) }
 {
     let mut tokens = Listed::new(alloc);
