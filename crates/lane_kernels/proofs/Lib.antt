@@ -1,0 +1,4 @@
+mod LaneLemmas
+mod CountLemmas
+mod LoadLemmas
+mod RowLemmas
