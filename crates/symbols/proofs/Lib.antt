@@ -3,3 +3,4 @@ pub mod OnceLemmas
 pub mod OrderLemmas
 pub mod CompareLemmas
 pub mod WriteLemmas
+pub mod CopyLemmas

@@ -1,5 +1,5 @@
 // The ends of every integer variable.
-ghost use Rattle.std.specs.Prelude.{◌≤ℤ◌, pos, negsuc};
+ghost use Rattle.std.specs.Prelude.{◌≡◌, ◌≤ℤ◌, pos, negsuc};
 
 /// The least and the greatest value of every integer variable.
 ///
@@ -11,4 +11,17 @@ pub struct Ends {
     pub ghost low: { negsuc 1073741822 ≤ℤ min },
     pub ghost ordered: { min ≤ℤ max },
     pub ghost high: { max ≤ℤ pos 1073741823 },
+}
+
+impl Ends {
+    /// The widest ends that there are, -1073741823 and 1073741823.
+    pub fn widest() -> Ends
+        ensures min { result.min ≡ negsuc 1073741822 }
+        ensures max { result.max ≡ pos 1073741823 }
+    {
+        Ends {
+            min: -1_073_741_823,
+            max: 1_073_741_823,
+        }
+    }
 }

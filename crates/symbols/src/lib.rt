@@ -6,6 +6,7 @@
 //! `Rel` the six relations. Stands on `indexmap` alone.
 #![tactic(auto)]
 
+mod copy;
 mod ends;
 mod listed;
 mod memory;

@@ -18,7 +18,7 @@ const MOST: usize = 4_294_967_295;
 const DEEPEST: u16 = 256;
 
 // One layer of a symbol: its arguments are the ids of symbols before it.
-#[derive(Debug, PartialEq, Eq, Hash, Drop)]
+#[derive(Clone, Debug, PartialEq, Eq, Hash, Drop)]
 pub(crate) enum Node {
     Number(i32),
     Identifier(String),
