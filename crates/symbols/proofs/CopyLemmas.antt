@@ -1,5 +1,5 @@
 -- Clones of nodes stand for the same symbols.
-use Rattle.std.proofs.Common.{ℤ, String, Vec, Global, ◌≡◌, ℕ, ◌+◌, ◌<◌, ◌≤◌, List, [], ◌∷◌, ◌++◌, map, refl, sym, ap, ◌∙◌, subst, rules}
+use Rattle.std.proofs.Common.{ℤ, String, Vec, Global, ◌≡◌, ℕ, ◌+◌, ◌<◌, ◌≤◌, List, [], ◌∷◌, ◌++◌, map, refl, sym, ap, ◌∙◌, subst, rules, length, ◌^◌}
 use Rattle.std.proofs.lemmas.List.Elements.{same_from_all_zip}
 use Rattle.std.specs.List.{AllByRecursion, AllZip}
 use Rattle.std.specs.String.{string_bytes}
@@ -92,4 +92,5 @@ IsTable-copied nodes copies kept depths h same table =
       once = subst IsOnce (sym symbols) table.once;
       depths = same ∙ table.depths ∙ ap (map depth) (sym symbols);
       shallow = subst (AllByRecursion (λ n. n ≤ 256)) (sym same) table.shallow;
+      few = subst (λ (kept : List ℕ). length kept < 2 ^ 32) (sym same) table.few;
     }

@@ -4,3 +4,4 @@ pub mod OrderLemmas
 pub mod CompareLemmas
 pub mod WriteLemmas
 pub mod CopyLemmas
+pub mod SortedLemmas

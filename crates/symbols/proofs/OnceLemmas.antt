@@ -1,5 +1,5 @@
 -- Nodes that are distinct stand for symbols that are distinct.
-use Rattle.std.proofs.Common.{◌≡◌, ℕ, zero, suc, ◌+◌, ◌<◌, ◌≤◌, List, [], ◌∷◌, ◌++◌, length, map, get_or, Some, Bool, true, false, refl, sym, ap, ◌∙◌, subst, arith, rules, inl, inr, slice_get, pos, zero-add, ℤ}
+use Rattle.std.proofs.Common.{◌≡◌, ℕ, zero, suc, ◌+◌, ◌^◌, ◌<◌, ◌≤◌, length-append, List, [], ◌∷◌, ◌++◌, length, map, get_or, Some, Bool, true, false, refl, sym, ap, ◌∙◌, subst, arith, rules, inl, inr, slice_get, pos, zero-add, ℤ}
 use Rattle.std.proofs.lemmas.Option.{slice_get-get_or, slice_get_within, get_or_from_slice_get}
 use Rattle.std.proofs.lemmas.Bool.Decides.{leb_tells, Decides-eqb, Decides-int_eq}
 use Rattle.std.proofs.lemmas.Map.Keys.{IsDistinct-head, IsDistinct-tail}
@@ -179,8 +179,8 @@ IsOnce-symbols_of nodes below distinct a b p q e =
 
 -- a node that is added, with its depth, leaves a table
 pub IsTable-push : (nodes : List Node) (kept : List ℕ) (a : Node) (level : ℕ) → IsTable nodes kept → IsBelow (length nodes) a
-    → level ≡ depth (symbol_of (symbols_of nodes) a) → level ≤ 256 → IsDistinct node.eq (nodes ++ a ∷ []) → IsTable (nodes ++ a ∷ []) (kept ++ level ∷ [])
-IsTable-push nodes kept a level table below same fits distinct =
+    → level ≡ depth (symbol_of (symbols_of nodes) a) → level ≤ 256 → length kept + 1 < 2 ^ 32 → IsDistinct node.eq (nodes ++ a ∷ []) → IsTable (nodes ++ a ∷ []) (kept ++ level ∷ [])
+IsTable-push nodes kept a level table below same fits room distinct =
     let before : AreBelow 0 (nodes ++ a ∷ []) = AreBelow-push 0 nodes a table.before (subst (λ p. IsBelow p a) (sym (zero-add (length nodes))) below) in
     let m : List Symbol = symbols_of nodes in
     let s : Symbol = symbol_of m a in
@@ -191,4 +191,5 @@ IsTable-push nodes kept a level table below same fits distinct =
       once = IsOnce-symbols_of (nodes ++ a ∷ []) before distinct;
       depths = depths;
       shallow = AllByRecursion-push (λ n. n ≤ 256) kept level table.shallow fits;
+      few = simp length-append (omega arith);
     }

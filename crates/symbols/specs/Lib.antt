@@ -5,3 +5,4 @@ pub mod Text
 pub mod Table
 pub mod Nodes
 pub mod View
+pub mod Sorted

@@ -1,5 +1,5 @@
 -- What the nodes of a table stand for. Only the table's own code reads this file.
-use Rattle.std.specs.Prelude.{◌≡◌, ℕ, ◌+◌, ◌<◌, ◌≤◌, length, List, [], ◌∷◌, ◌++◌, map, max, slice_index, Option, Some, None, ◌==◌, if◌then◌else◌, codes}
+use Rattle.std.specs.Prelude.{◌≡◌, ℕ, ◌+◌, ◌^◌, ◌<◌, ◌≤◌, length, List, [], ◌∷◌, ◌++◌, map, max, slice_index, Option, Some, None, ◌==◌, if◌then◌else◌, codes}
 use Rattle.std.specs.List.{AllByRecursion}
 use Rattle.std.specs.Ordering.{nat_cmp, int_cmp, ordering_then}
 use Rattle.std.specs.declared.cmp.Ordering.{Ordering}
@@ -43,12 +43,14 @@ abbrev pub deepest_at : List ℕ → List ℕ → ℕ
 deepest_at kept [] = 0
 deepest_at kept (place ∷ places) = max (slice_index kept place) (deepest_at kept places)
 
--- arguments stand before their functions, no symbol stands twice, and each depth is kept beside its symbol, at most 256
+-- arguments stand before their functions, no symbol stands twice, and each depth is kept beside its symbol, at most 256; each place
+-- is below 2^32
 pub record IsTable (nodes : List Node) (kept : List ℕ) : Type 0 where
   pub before : AreBelow 0 nodes
   pub once : IsOnce (symbols_of nodes)
   pub depths : kept ≡ map depth (symbols_of nodes)
   pub shallow : AllByRecursion (λ n. n ≤ 256) kept
+  pub few : length kept < 2 ^ 32
 
 -- the arguments of a node, none where it is no function
 abbrev pub args_in : Node → List ℕ

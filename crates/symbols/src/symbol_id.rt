@@ -27,8 +27,8 @@ impl SymbolId {
         SymbolId { place }
     }
 
-    // The place that the id names.
-    pub(crate) fn place(self) -> usize
+    /// The place of the symbol in its table, counted from 0: an index for what is kept by symbol.
+    pub fn place(self) -> usize
         ensures { result ≡ self }
     {
         self.place as usize

@@ -1,5 +1,5 @@
 // The table of symbols: each symbol stands in it once, and its place is its id.
-ghost use Rattle.std.specs.Prelude.{◌≡◌, ◌<◌, ◌≤◌, ◌+◌, [], length, Some, slice_get, OnOk, OnErr, IfOk, All};
+ghost use Rattle.std.specs.Prelude.{◌≡◌, ◌<◌, ◌≤◌, ◌+◌, ◌^◌, [], length, Some, slice_get, OnOk, OnErr, IfOk, All};
 ghost use Rattle.symbols.specs.Symbol.{depth, Number, Identifier, Text};
 ghost use Rattle.symbols.specs.Table.{IsFront, IsOnce, applied};
 ghost use Rattle.symbols.specs.Nodes.{symbols_of, symbol_of, IsBelow, IsTable, deepest_at};
@@ -68,7 +68,8 @@ impl SymbolTable {
 
     /// How many symbols there are.
     pub fn len(&self) -> usize
-        ensures { result ≡ length self.now }
+        ensures length { result ≡ length self.now }
+        ensures few { result < 2 ^ 32 }
     {
         self.nodes.len()
     }

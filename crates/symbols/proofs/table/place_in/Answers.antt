@@ -1,10 +1,12 @@
-use Rattle.std.proofs.Common.{rules, ◌≡◌, List, [], ◌∷◌, ◌++◌, Bool, true, false, cond, not, subst, sym, ap, ◌∙◌, slice_get}
+use Rattle.std.proofs.Common.{rules, arith, ◌≡◌, List, [], ◌∷◌, ◌++◌, Bool, true, false, cond, not, length, ◌+◌, ◌^◌, ◌<◌, subst, sym, ap, ◌∙◌, slice_get}
 use Rattle.std.specs.List.{IsDistinct}
 use Rattle.symbols.specs.declared.table.Node.{Node}
 use Rattle.symbols.specs.contracts.table.NodePartialEq.TheImpl.{ghosts as node}
+use Rattle.std.proofs.lemmas.List.{length-map}
+use Rattle.symbols.specs.Symbol.{depth}
 use Rattle.symbols.specs.Table.{IsFront}
 use Rattle.symbols.specs.Nodes.{symbols_of, IsTable}
-use Rattle.symbols.proofs.NodeLemmas.{IsFront-push, IsFront-same, slice_get-placed}
+use Rattle.symbols.proofs.NodeLemmas.{length-symbols_of, IsFront-push, IsFront-same, slice_get-placed}
 use Rattle.symbols.proofs.OnceLemmas.{IsTable-push, says_same}
 use Rattle.symbols.proofs.table.place_in.Goals as goal
 
@@ -40,8 +42,11 @@ returns-clause-table c =
     let on : c.in_ok-place.added ≡ true = search rules in
     let more : c.insert_full.new.self.keys ≡ c.args.nodes.now.keys ++ c.args.node ∷ [] = keys_push _ _ _ _ _ c.in_ok-place.ensures.keys c.in_ok-place.ensures.added on in
     let distinct : IsDistinct node.eq (c.args.nodes.now.keys ++ c.args.node ∷ []) = subst (IsDistinct node.eq) more c.in_ok-place.ensures.unique in
+    let as_many : length c.args.depths.now.items ≡ length c.args.nodes.now.keys =
+    ap length c.requires.table.depths ∙ length-map (symbols_of c.args.nodes.now.keys) depth ∙ length-symbols_of c.args.nodes.now.keys in
+    let room : length c.args.depths.now.items + 1 < 2 ^ 32 = omega arith in
     let table : IsTable (c.args.nodes.now.keys ++ c.args.node ∷ []) (c.args.depths.now.items ++ c.args.level ∷ []) =
-    IsTable-push c.args.nodes.now.keys c.args.depths.now.items c.args.node c.args.level c.requires.table c.requires.below c.requires.level c.requires.fits distinct in
+    IsTable-push c.args.nodes.now.keys c.args.depths.now.items c.args.node c.args.level c.requires.table c.requires.below c.requires.level c.requires.fits room distinct in
     let kept : c.push.new.self.items ≡ c.args.depths.now.items ++ c.args.level ∷ [] = c.in_ok-push.ensures.items ∙ ap (λ l. l ++ c.args.level ∷ []) c.in_ok-reserve.ensures.items in
     subst (λ l. IsTable l c.push.new.self.items) (sym more) (subst (λ k. IsTable (c.args.nodes.now.keys ++ c.args.node ∷ []) k) (sym kept) table)
 
