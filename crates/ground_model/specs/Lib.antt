@@ -12,3 +12,6 @@ pub mod Answers
 pub mod Objective
 pub mod Definite
 pub mod Printed
+pub mod World
+pub mod Ways
+pub mod Reduct

@@ -1,0 +1,13 @@
+-- Worlds: a set of atoms and a value for each variable, both by number.
+use Rattle.std.specs.Prelude.{ℕ, Bool, ℤ}
+use Rattle.ground_model.specs.declared.answer.Answer.{Answer}
+use Rattle.ground_model.specs.Answers.{value_at, has_atom}
+
+-- a world
+pub record World : Type 0 where
+  pub atoms : ℕ → Bool
+  pub values : ℕ → ℤ
+
+-- the world of an answer
+abbrev pub world_of : Answer → World
+world_of answer = record { atoms = has_atom answer.atoms; values = value_at answer.values }
