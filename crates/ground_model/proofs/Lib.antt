@@ -6,3 +6,4 @@ pub mod WayLemmas
 pub mod ReductLemmas
 pub mod Ascending
 pub mod DefiniteLaw
+pub mod Products

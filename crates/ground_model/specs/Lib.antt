@@ -15,3 +15,4 @@ pub mod Printed
 pub mod World
 pub mod Ways
 pub mod Reduct
+pub mod Sizes

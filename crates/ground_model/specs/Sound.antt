@@ -1,5 +1,5 @@
 -- What every ground program keeps: numbers and symbols of its own, tuples that differ, and bounds by which each sum fits 128 bits.
-use Rattle.std.specs.Prelude.{ℕ, ◌^◌, nat_lt, nat_le, nat_eq, ◌==◌, Bool, true, false, not, ◌&&◌, if◌then◌else◌, ℤ, pos, ◌+ℤ◌, ◌-ℤ◌, ◌*ℤ◌, neg_ℤ, int_lt, int_le, List, [], ◌∷◌, length, map}
+use Rattle.std.specs.Prelude.{ℕ, ◌^◌, nat_lt, nat_le, nat_eq, ◌==◌, Bool, true, false, not, ◌&&◌, if◌then◌else◌, ℤ, pos, negsuc, ◌+ℤ◌, ◌-ℤ◌, ◌*ℤ◌, neg_ℤ, int_lt, int_le, List, [], ◌∷◌, length, map}
 use Rattle.std.specs.Ordering.{int_eq}
 use Rattle.std.specs.List.{list_all, list_any, filter, range_with_len}
 use Rattle.std.specs.Cmp.Lexicographic.{pointwise}
@@ -75,15 +75,25 @@ occurs linears x = list_any (λ linear. list_any (λ pair. pair.0 == x) linear.p
 abbrev pub has_few_variables : ℕ → List Linear → Bool
 has_few_variables variables linears = nat_le (length (filter (occurs linears) (range_with_len 1 variables))) most
 
+-- the least of a coefficient times the numbers within the ends
+abbrev pub least_product : Ends → ℤ → ℤ
+least_product ends (pos n) = pos n *ℤ ends.min
+least_product ends (negsuc n) = negsuc n *ℤ ends.max
+
+-- the greatest of a coefficient times the numbers within the ends
+abbrev pub greatest_product : Ends → ℤ → ℤ
+greatest_product ends (pos n) = pos n *ℤ ends.max
+greatest_product ends (negsuc n) = negsuc n *ℤ ends.min
+
 -- the least sum over the ends
 abbrev pub least_sum : Ends → List (ℕ × ℤ) → ℤ
 least_sum ends [] = pos 0
-least_sum ends (pair ∷ rest) = (pair.1 *ℤ (if int_le (pos 0) pair.1 then ends.min else ends.max)) +ℤ least_sum ends rest
+least_sum ends (pair ∷ rest) = least_product ends pair.1 +ℤ least_sum ends rest
 
 -- the greatest sum over the ends
 abbrev pub greatest_sum : Ends → List (ℕ × ℤ) → ℤ
 greatest_sum ends [] = pos 0
-greatest_sum ends (pair ∷ rest) = (pair.1 *ℤ (if int_le (pos 0) pair.1 then ends.max else ends.min)) +ℤ greatest_sum ends rest
+greatest_sum ends (pair ∷ rest) = greatest_product ends pair.1 +ℤ greatest_sum ends rest
 
 -- the least and the greatest value over the ends are small
 abbrev pub is_small_over : Ends → Linear → Bool

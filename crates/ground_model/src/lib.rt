@@ -11,6 +11,7 @@ mod int_set;
 mod linear;
 mod program;
 mod rule;
+mod value;
 
 pub use answer::Answer;
 pub use int_set::IntSet;
