@@ -7,3 +7,4 @@ pub mod ReductLemmas
 pub mod Ascending
 pub mod DefiniteLaw
 pub mod Products
+pub mod KeptLemmas

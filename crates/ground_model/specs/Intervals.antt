@@ -1,5 +1,6 @@
 -- Sets of integers as closed intervals.
-use Rattle.std.specs.Prelude.{Bool, true, false, ◌&&◌, ◌||◌, ℤ, pos, ◌+ℤ◌, int_le, List, [], ◌∷◌}
+use Rattle.std.specs.Prelude.{Bool, true, ◌&&◌, ℤ, pos, ◌+ℤ◌, int_le, List, [], ◌∷◌}
+use Rattle.std.specs.List.{list_any}
 
 -- each interval begins at least 2 above this number, and is not empty; likewise the next ones behind it
 abbrev pub are_parted_from : ℤ → List (ℤ × ℤ) → Bool
@@ -14,5 +15,4 @@ are_parted (interval ∷ rest) = int_le interval.0 interval.1 && are_parted_from
 
 -- the integer lies in one of the intervals
 abbrev pub lies_in : List (ℤ × ℤ) → ℤ → Bool
-lies_in [] k = false
-lies_in (interval ∷ rest) k = (int_le interval.0 k && int_le k interval.1) || lies_in rest k
+lies_in intervals k = list_any (λ interval. int_le interval.0 k && int_le k interval.1) intervals

@@ -27,6 +27,10 @@ is_kept world way = (not way.is_choice || world.atoms way.atom) && list_all (res
 abbrev pub definite_of : Way → DefiniteRule
 definite_of way = record { head = way.atom - 1; body = positives way.body }
 
+-- what the reduct keeps of these ways
+abbrev pub kept_of : World → List Way → List DefiniteRule
+kept_of world ways = map definite_of (filter (is_kept world) ways)
+
 -- the reduct
 abbrev pub reduct : List GroundRule → World → List DefiniteRule
-reduct rules world = map definite_of (filter (is_kept world) (ways rules))
+reduct rules world = kept_of world (ways rules)

@@ -1,5 +1,5 @@
 -- Worlds: a set of atoms and a value for each variable, both by number.
-use Rattle.std.specs.Prelude.{ℕ, Bool, ℤ}
+use Rattle.std.specs.Prelude.{ℕ, Bool, false, ℤ, List, slice_index_or}
 use Rattle.ground_model.specs.declared.answer.Answer.{Answer}
 use Rattle.ground_model.specs.Answers.{value_at, has_atom}
 
@@ -11,3 +11,7 @@ pub record World : Type 0 where
 -- the world of an answer
 abbrev pub world_of : Answer → World
 world_of answer = record { atoms = has_atom answer.atoms; values = value_at answer.values }
+
+-- the world of the flags of atoms, that of atom n at place n, and of the variables' values in order
+abbrev pub world_by : List Bool → List ℤ → World
+world_by flags values = record { atoms = λ a. slice_index_or flags a false; values = value_at values }

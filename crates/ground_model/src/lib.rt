@@ -10,6 +10,7 @@ mod answer;
 mod int_set;
 mod linear;
 mod program;
+mod reduct;
 mod rule;
 mod value;
 
