@@ -60,12 +60,12 @@ no_items [] e = refl
 no_items (x ∷ xs) e = absurd (omega arith)
 
 module _ (program : GroundProgram) (given : is_definite program ≡ true) where
-  abbrev rules_definite : list_all is_definite_rule program.rules ≡ true
+  pub rules_definite : list_all is_definite_rule program.rules ≡ true
   rules_definite =
       (and_elim (list_all is_definite_rule program.rules) (length program.variables == 0)
       (and_elim (list_all is_definite_rule program.rules && (length program.variables == 0)) (not program.has_objective) given).0).0
 
-  abbrev no_variables : length program.variables ≡ 0
+  pub no_variables : length program.variables ≡ 0
   no_variables =
       eqb-true (length program.variables) 0
       (and_elim (list_all is_definite_rule program.rules) (length program.variables == 0)

@@ -1,13 +1,12 @@
 -- What the reduct keeps of lists of ways.
-use Rattle.std.proofs.Common.{◌≡◌, ◌<◌, ◌-◌, ℕ, Bool, true, false, cond, ◌&&◌, List, [], ◌∷◌, ◌++◌, map, filter, refl, sym, ◌∙◌, ap, append_assoc}
+use Rattle.std.proofs.Common.{◌≡◌, ◌-◌, ℕ, Bool, true, false, cond, ◌&&◌, List, [], ◌∷◌, ◌++◌, map, filter, refl, ap}
 use Rattle.std.specs.List.{AllByRecursion, list_all}
-use Rattle.definite_rules.specs.Rule.{DefiniteRule}
 use Rattle.ground_model.specs.declared.rule.BodyLit.{BodyLit}
 use Rattle.ground_model.specs.declared.rule.BodyLit.TheVariants as b
 use Rattle.ground_model.specs.Sizes.{IsCounted, IsReadable}
 use Rattle.ground_model.specs.World.{World}
 use Rattle.ground_model.specs.Ways.{Way}
-use Rattle.ground_model.specs.Reduct.{positives, rest_holds, is_kept, definite_of, kept_of}
+use Rattle.ground_model.specs.Reduct.{positives, is_kept, definite_of, kept_of}
 
 pub positives_append : (xs ys : List BodyLit) → positives (xs ++ ys) ≡ positives xs ++ positives ys
 positives_append [] ys = refl

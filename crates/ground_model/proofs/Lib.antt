@@ -8,3 +8,5 @@ pub mod Ascending
 pub mod DefiniteLaw
 pub mod Products
 pub mod KeptLemmas
+pub mod SizeLemmas
+pub mod FlagLemmas

@@ -1,5 +1,5 @@
 -- Sizes of products and sums.
-use Rattle.std.proofs.Common.{◌≡◌, ◌<◌, ◌≤◌, ◌^◌, ◌*◌, ◌+◌, ◌-◌, ℕ, zero, suc, ℤ, pos, negsuc, ◌*ℤ◌, ◌+ℤ◌, unsigned_abs, List, [], ◌∷◌, slice_index_or, mul-le-mul, le_of_lt, subst, sym, lit<, refl, ap, ◌∙◌, drop, get_or, length, add-one, drop-cons, FitsSigned, to_z, of_z, w64, arith}
+use Rattle.std.proofs.Common.{◌≡◌, ◌<◌, ◌≤◌, ◌^◌, ◌*◌, ◌+◌, ◌-◌, ℕ, zero, suc, ℤ, pos, ◌*ℤ◌, ◌+ℤ◌, unsigned_abs, List, [], ◌∷◌, slice_index_or, mul-le-mul, le_of_lt, subst, sym, lit<, refl, ap, ◌∙◌, drop, get_or, length, add-one, drop-cons, FitsSigned, to_z, of_z, w64, arith}
 use Rattle.std.specs.List.{AllByRecursion}
 use Rattle.std.proofs.lemmas.Int.{unsigned_abs-mul, ints, to_z-of_z, fits_signed_from_abs}
 use Rattle.std.specs.Int.{w128}

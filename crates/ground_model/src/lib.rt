@@ -7,6 +7,8 @@
 #![tactic(auto)]
 
 mod answer;
+mod definite;
+mod flags;
 mod int_set;
 mod linear;
 mod program;
@@ -15,6 +17,7 @@ mod rule;
 mod value;
 
 pub use answer::Answer;
+pub use definite::definite_answer;
 pub use int_set::IntSet;
 pub use linear::{Linear, Place, Relation};
 pub use program::GroundProgram;

@@ -1,4 +1,4 @@
-use Rattle.std.proofs.Common.{◌≡◌, ◌-◌, drop, take, length, true}
+use Rattle.std.proofs.Common.{◌≡◌, ◌-◌, drop, length}
 use Rattle.std.specs.List.{AllByRecursion, list_all}
 use Rattle.ground_model.specs.Reduct.{rest_holds}
 use Rattle.ground_model.specs.Sizes.{IsReadable}
