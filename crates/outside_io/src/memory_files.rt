@@ -1,5 +1,5 @@
 // Inputs in memory, with calls that fail by number.
-ghost use Rattle.std.specs.Prelude.{◌≡◌, ◌≤◌, min, length, take, drop, Some, IfOk, List, ℕ, []};
+ghost use Rattle.std.specs.Prelude.{◌≡◌, ◌≤◌, min, length, take, drop, Some, IfOk, []};
 ghost use Rattle.std.specs.Option.{option_copied};
 ghost use Rattle.outside_io.specs.Held.{entry_of, held_under};
 

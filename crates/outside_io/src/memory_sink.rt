@@ -1,5 +1,5 @@
 // An output in memory, with calls that fail by number.
-ghost use Rattle.std.specs.Prelude.{◌≡◌, length, Some, IfOk, []};
+ghost use Rattle.std.specs.Prelude.{◌≡◌, Some, IfOk, []};
 
 use crate::calls::Calls;
 use crate::files::OutFault;
