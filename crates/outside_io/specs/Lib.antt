@@ -2,3 +2,6 @@ pub mod Faults
 pub mod Told
 pub mod Held
 pub mod Stops
+pub mod Numbered
+pub mod MemoryFiles
+pub mod MemorySink

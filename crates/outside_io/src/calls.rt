@@ -1,5 +1,5 @@
 // Calls by number, of which those in a list fail.
-ghost use Rattle.std.specs.Prelude.{◌≡◌, ◌+◌, ◌-◌, ◌^◌, ◌↔◌, min, Contains, OnErr, IsErr, IsErrOf};
+ghost use Rattle.std.specs.Prelude.{◌↔◌, OnErr, IsErr, IsErrOf};
 ghost use Rattle.outside_io.specs.Faults.{RisesWhere};
 
 use crate::fault_count::FaultCount;
@@ -15,10 +15,10 @@ pub(crate) struct Calls {
 }
 
 impl Calls {
+    ghost use Rattle.outside_io.specs.Numbered.{NextFails, CountsCall, IsFresh};
+
     pub(crate) fn new(failing: Listed<u64>) -> Calls
-        ensures failing { result.failing ≡ failing }
-        ensures made { result.made ≡ 0 }
-        ensures faults { result.faults ≡ 0 }
+        ensures { IsFresh result failing }
     {
         Calls {
             failing,
@@ -29,9 +29,8 @@ impl Calls {
 
     // Begins one more call, and counts a fault where it is one that fails.
     pub(crate) fn begin(&mut self) -> Result<(), OutFault>
-        ensures number { self.new.made ≡ min (self.old.made + 1) (2 ^ 64 - 1) }
-        ensures listed { IsErr result ↔ Contains self.old.failing self.new.made }
-        ensures failing { self.new.failing ≡ self.old.failing }
+        ensures counted { CountsCall self.old self.new }
+        ensures listed { IsErr result ↔ NextFails self.old }
         ensures answer { OnErr result (IsErrOf result OutFault.Failed) }
         ensures cause { RisesWhere (IsErrOf result OutFault.Failed) self.old.faults self.new.faults }
     {

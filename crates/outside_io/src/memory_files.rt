@@ -1,7 +1,11 @@
 // Inputs in memory, with calls that fail by number.
-ghost use Rattle.std.specs.Prelude.{◌≡◌, ◌≤◌, min, length, take, drop, Some, IfOk, []};
+ghost use Rattle.std.specs.Prelude.{◌≡◌, ◌≤◌, ◌+◌, ◌↔◌, ◌⊎◌, min, length, take, Some, IfOk, OnOk, OnErr, IsErrOf, IsNone, []};
 ghost use Rattle.std.specs.Option.{option_copied};
+ghost use Rattle.std.specs.Io.{ReadsAtMost};
+ghost use Rattle.std.specs.Io.KnownBytes.{ReadConsumes};
+ghost use Rattle.outside_io.specs.Faults.{RisesWhere};
 ghost use Rattle.outside_io.specs.Held.{entry_of, held_under};
+ghost use Rattle.outside_io.specs.Numbered.{NextFails, CountsCall, IsFresh};
 
 use crate::calls::Calls;
 use crate::files::{Files, OutFault};
@@ -21,6 +25,8 @@ pub struct MemoryFiles {
 }
 
 impl MemoryFiles {
+    ghost use Rattle.outside_io.specs.MemoryFiles.{calls_of, text_of, left_of, taken_of};
+
     /// Holds these inputs, of which none is open yet: nothing is left to read. The calls of the numbers
     /// in `failing` fail, from 1 over all kinds; so does an opening under a name that is not held.
     pub fn new(
@@ -28,10 +34,10 @@ impl MemoryFiles {
         files: Listed<MemoryFile>,
         failing: Listed<u64>,
     ) -> Result<MemoryFiles, Memory>
-        ensures texts { IfOk result (λ made. ⟦<MemoryFiles as Files>⟧.text made ≡ held_under files) }
-        ensures closed { IfOk result (λ made. ⟦<MemoryFiles as Files>⟧.left made ≡ Some []) }
-        ensures untaken { IfOk result (λ made. ⟦<MemoryFiles as Files>⟧.taken made ≡ 0) }
-        ensures quiet { IfOk result (λ made. ⟦<MemoryFiles as Files>⟧.faults made ≡ 0) }
+        ensures texts { IfOk result (λ made. text_of made ≡ held_under files) }
+        ensures closed { IfOk result (λ made. left_of made ≡ []) }
+        ensures untaken { IfOk result (λ made. taken_of made ≡ 0) }
+        ensures calls { IfOk result (λ made. IsFresh (calls_of made) failing) }
     {
         Ok(MemoryFiles {
             alloc,
@@ -44,15 +50,27 @@ impl MemoryFiles {
 }
 
 impl Files for MemoryFiles {
-    ghost text = { λ m. held_under m.files };
+    ghost use Rattle.outside_io.specs.MemoryFiles.{calls_of, text_of, left_of, taken_of};
 
-    ghost left = { λ m. Some (drop m.at m.opened) };
+    ghost text = { text_of };
 
-    ghost taken = { λ m. m.at };
+    ghost left = { λ files. Some (left_of files) };
 
-    ghost faults = { λ m. m.calls.faults };
+    ghost taken = { taken_of };
 
-    fn open_file(&mut self, name: &str) -> Result<(), OutFault> {
+    ghost faults = { λ files. (calls_of files).faults };
+
+    fn open_file(&mut self, name: &str) -> Result<(), OutFault>
+        ensures counted { CountsCall (calls_of self.old) (calls_of self.new) }
+        ensures failing { NextFails (calls_of self.old) → IsErrOf result OutFault.Failed }
+        ensures missing { IsNone (text_of self.old name.now) → IsErrOf result OutFault.Failed }
+        ensures only { IsErrOf result OutFault.Failed → NextFails (calls_of self.old) ⊎ IsNone (text_of self.old name.now) }
+        ensures opened { OnOk result (text_of self.old name.now ≡ Some (left_of self.new)) }
+        ensures untaken { OnOk result (taken_of self.new ≡ 0) }
+        ensures texts { text_of self.new ≡ text_of self.old }
+        ensures refused { OnErr result ((left_of self.new ≡ left_of self.old) × (taken_of self.new ≡ taken_of self.old)) }
+        ensures cause { RisesWhere (IsErrOf result OutFault.Failed) (calls_of self.old).faults (calls_of self.new).faults }
+    {
         self.calls.begin()?;
         let Some(file) = entry(self.files.items(), name.as_bytes()) else {
             return Err(self.calls.faults.failed());
@@ -62,7 +80,18 @@ impl Files for MemoryFiles {
         Ok(())
     }
 
-    fn read(&mut self, buf: &mut [u8]) -> Result<usize, OutFault> {
+    fn read(&mut self, buf: &mut [u8]) -> Result<usize, OutFault>
+        ensures counted { CountsCall (calls_of self.old) (calls_of self.new) }
+        ensures failing { IsErrOf result OutFault.Failed ↔ NextFails (calls_of self.old) }
+        ensures needs_no_memory { OnErr result (IsErrOf result OutFault.Failed) }
+        ensures bound { ReadsAtMost result buf.new }
+        ensures most { IfOk result (λ count. count ≡ min (length (left_of self.old)) (length buf.old)) }
+        ensures bytes { ReadConsumes (Some (left_of self.old)) (Some (left_of self.new)) result buf.new }
+        ensures taken { IfOk result (λ count. taken_of self.new ≡ taken_of self.old + count) }
+        ensures texts { text_of self.new ≡ text_of self.old }
+        ensures refused { OnErr result ((left_of self.new ≡ left_of self.old) × (taken_of self.new ≡ taken_of self.old)) }
+        ensures cause { RisesWhere (IsErrOf result OutFault.Failed) (calls_of self.old).faults (calls_of self.new).faults }
+    {
         self.calls.begin()?;
         let count = copy_front(&self.opened.items()[self.at..], buf);
         self.at += count;

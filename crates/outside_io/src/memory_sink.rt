@@ -1,5 +1,8 @@
 // An output in memory, with calls that fail by number.
-ghost use Rattle.std.specs.Prelude.{◌≡◌, Some, IfOk, []};
+ghost use Rattle.std.specs.Prelude.{◌≡◌, ◌↔◌, ◌++◌, ◌∷◌, length, Some, IfOk, OnOk, OnErr, IsErrOf, []};
+ghost use Rattle.std.specs.Option.{option_copied};
+ghost use Rattle.outside_io.specs.Faults.{RisesWhere};
+ghost use Rattle.outside_io.specs.Numbered.{NextFails, CountsCall, IsFresh};
 
 use crate::calls::Calls;
 use crate::files::OutFault;
@@ -18,13 +21,15 @@ pub struct MemorySink {
 }
 
 impl MemorySink {
+    ghost use Rattle.outside_io.specs.MemorySink.{calls_of, written_of, flushed_of, names_of};
+
     /// An open output with nothing written and no name listed. The calls of the numbers in `failing`
     /// fail, from 1 over all kinds.
     pub fn new(alloc: Global, failing: Listed<u64>) -> Result<MemorySink, Memory>
-        ensures written { IfOk result (λ made. ⟦<MemorySink as Sink>⟧.written made ≡ Some []) }
-        ensures flushed { IfOk result (λ made. ⟦<MemorySink as Sink>⟧.flushed made ≡ Some 0) }
-        ensures names { IfOk result (λ made. ⟦<MemorySink as Sink>⟧.opened made ≡ Some []) }
-        ensures quiet { IfOk result (λ made. ⟦<MemorySink as Sink>⟧.faults made ≡ 0) }
+        ensures written { IfOk result (λ made. written_of made ≡ []) }
+        ensures flushed { IfOk result (λ made. flushed_of made ≡ 0) }
+        ensures names { IfOk result (λ made. names_of made ≡ []) }
+        ensures calls { IfOk result (λ made. IsFresh (calls_of made) failing) }
     {
         Ok(MemorySink {
             alloc,
@@ -37,36 +42,47 @@ impl MemorySink {
 
     /// The bytes written since the last opening.
     pub fn bytes(&self) -> &[u8]
-        ensures { ⟦<MemorySink as Sink>⟧.written self.now ≡ Some result.now }
+        ensures { result.now ≡ written_of self.now }
     {
         self.written.items()
     }
 
     /// How many of these bytes were flushed.
     pub fn flushed(&self) -> usize
-        ensures { ⟦<MemorySink as Sink>⟧.flushed self.now ≡ Some result }
+        ensures { result ≡ flushed_of self.now }
     {
         self.flushed
     }
 
     /// The names, or None, of the openings, in order.
     pub fn names(&self) -> &[Option<Listed<u8>>]
-        ensures { ⟦<MemorySink as Sink>⟧.opened self.now ≡ Some result.now }
+        ensures { result.now ≡ names_of self.now }
     {
         self.names.items()
     }
 }
 
 impl Sink for MemorySink {
-    ghost written = { λ m. Some m.written };
+    ghost use Rattle.outside_io.specs.MemorySink.{calls_of, written_of, flushed_of, names_of};
 
-    ghost flushed = { λ m. Some m.flushed };
+    ghost written = { λ sink. Some (written_of sink) };
 
-    ghost opened = { λ m. Some m.names };
+    ghost flushed = { λ sink. Some (flushed_of sink) };
 
-    ghost faults = { λ m. m.calls.faults };
+    ghost opened = { λ sink. Some (names_of sink) };
 
-    fn open_sink(&mut self, name: Option<&str>) -> Result<(), OutFault> {
+    ghost faults = { λ sink. (calls_of sink).faults };
+
+    fn open_sink(&mut self, name: Option<&str>) -> Result<(), OutFault>
+        ensures counted { CountsCall (calls_of self.old) (calls_of self.new) }
+        ensures failing { IsErrOf result OutFault.Failed ↔ NextFails (calls_of self.old) }
+        ensures written { OnOk result (written_of self.new ≡ []) }
+        ensures flushed { OnOk result (flushed_of self.new ≡ 0) }
+        ensures names { OnOk result (names_of self.new ≡ names_of self.old ++ option_copied name.entry ∷ []) }
+        ensures refused { OnErr result ((written_of self.new ≡ written_of self.old) × (flushed_of self.new ≡ flushed_of self.old)
+            × (names_of self.new ≡ names_of self.old)) }
+        ensures cause { RisesWhere (IsErrOf result OutFault.Failed) (calls_of self.old).faults (calls_of self.new).faults }
+    {
         self.calls.begin()?;
         let kept = match name {
             None => None,
@@ -78,13 +94,31 @@ impl Sink for MemorySink {
         Ok(())
     }
 
-    fn write(&mut self, piece: &[u8]) -> Result<usize, OutFault> {
+    fn write(&mut self, piece: &[u8]) -> Result<usize, OutFault>
+        ensures counted { CountsCall (calls_of self.old) (calls_of self.new) }
+        ensures failing { IsErrOf result OutFault.Failed ↔ NextFails (calls_of self.old) }
+        ensures whole { IfOk result (λ count. count ≡ length piece.now) }
+        ensures bytes { OnOk result (written_of self.new ≡ written_of self.old ++ piece.now) }
+        ensures refused { OnErr result (written_of self.new ≡ written_of self.old) }
+        ensures flushed { flushed_of self.new ≡ flushed_of self.old }
+        ensures names { names_of self.new ≡ names_of self.old }
+        ensures cause { RisesWhere (IsErrOf result OutFault.Failed) (calls_of self.old).faults (calls_of self.new).faults }
+    {
         self.calls.begin()?;
         self.written.append(piece)?;
         Ok(piece.len())
     }
 
-    fn flush(&mut self) -> Result<(), OutFault> {
+    fn flush(&mut self) -> Result<(), OutFault>
+        ensures counted { CountsCall (calls_of self.old) (calls_of self.new) }
+        ensures failing { IsErrOf result OutFault.Failed ↔ NextFails (calls_of self.old) }
+        ensures needs_no_memory { OnErr result (IsErrOf result OutFault.Failed) }
+        ensures all { OnOk result (flushed_of self.new ≡ length (written_of self.new)) }
+        ensures bytes { written_of self.new ≡ written_of self.old }
+        ensures names { names_of self.new ≡ names_of self.old }
+        ensures refused { OnErr result (flushed_of self.new ≡ flushed_of self.old) }
+        ensures cause { RisesWhere (IsErrOf result OutFault.Failed) (calls_of self.old).faults (calls_of self.new).faults }
+    {
         self.calls.begin()?;
         self.flushed = self.written.len();
         Ok(())
