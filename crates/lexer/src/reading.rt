@@ -58,17 +58,34 @@ mod tests {
     use super::*;
     use crate::token::{LexCause, TokenKind};
 
-    // The first fault of a text.
-    fn fault(alloc: Global, text: &str) -> Option<(usize, LexCause)> {
-        match tokens(alloc, text.as_bytes()) {
-            Err(LexStop::Fault(fault)) => Some((fault.at, fault.cause)),
-            _ => None,
+    // Whether a text has these tokens, each with its kind, its start and its end.
+    fn has(alloc: Global, text: &[u8], wanted: &[(TokenKind, usize, usize)]) -> bool {
+        match tokens(alloc, text) {
+            Ok(found) => {
+                let found = found.items();
+                let mut same = found.len() == wanted.len();
+                for (token, (kind, start, end)) in found.iter().zip(wanted) {
+                    same = same
+                        && token.kind == *kind
+                        && token.start == *start
+                        && token.end == *end;
+                }
+                same
+            }
+            Err(_) => false,
+        }
+    }
+
+    // Whether the first fault of a text stands at this byte and has this cause.
+    fn stops(alloc: Global, text: &[u8], at: usize, cause: LexCause) -> bool {
+        match tokens(alloc, text) {
+            Err(LexStop::Fault(fault)) => fault.at == at && fault.cause == cause,
+            _ => false,
         }
     }
 
     #[test]
     fn reads_a_rule(rt: HostRuntime) {
-        let text = "not_a' :- __b(0,21),\n\tnot.";
         let wanted = [
             (TokenKind::Id, 0, 6),
             (TokenKind::Mark, 7, 9),
@@ -82,19 +99,15 @@ mod tests {
             (TokenKind::NotWord, 22, 25),
             (TokenKind::Mark, 25, 26),
         ];
-        let found = tokens(rt.alloc(), text.as_bytes()).unwrap();
-        assert!(rt; found.len() == wanted.len());
-        for (token, (kind, start, end)) in found.items().iter().zip(wanted) {
-            assert!(rt; token.kind == kind && token.start == start && token.end == end);
-        }
+        assert!(rt; has(rt.alloc(), b"not_a' :- __b(0,21),\n\tnot.", &wanted));
     }
 
     #[test]
     fn finds_the_first_fault(rt: HostRuntime) {
         let alloc = rt.alloc();
-        assert!(rt; fault(alloc, "p(01).") == Some((3, LexCause::BadCharacter)));
-        assert!(rt; fault(alloc, "p(2147483647).").is_none());
-        assert!(rt; fault(alloc, "p(2147483648).") == Some((2, LexCause::NumberTooLarge)));
-        assert!(rt; fault(alloc, "a :\n- b") == Some((2, LexCause::BadCharacter)));
+        assert!(rt; stops(alloc, b"p(01).", 3, LexCause::BadCharacter));
+        assert!(rt; has(alloc, b"2147483647", &[(TokenKind::Num, 0, 10)]));
+        assert!(rt; stops(alloc, b"p(2147483648).", 2, LexCause::NumberTooLarge));
+        assert!(rt; stops(alloc, b"a :\n- b", 2, LexCause::BadCharacter));
     }
 }
