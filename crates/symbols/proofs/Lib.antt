@@ -5,3 +5,4 @@ pub mod CompareLemmas
 pub mod WriteLemmas
 pub mod CopyLemmas
 pub mod SortedLemmas
+pub mod TableLemmas
