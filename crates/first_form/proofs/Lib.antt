@@ -1,0 +1,10 @@
+pub mod WordLemmas
+pub mod TokenLemmas
+pub mod Tables
+pub mod Turns
+pub mod Depth
+pub mod Complete
+pub mod Sound
+pub mod Laws
+pub mod Atoms
+pub mod Statements

@@ -1,0 +1,5 @@
+pub mod Word
+pub mod Spelled
+pub mod Grammar
+pub mod Form
+pub mod Reading
