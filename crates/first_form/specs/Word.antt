@@ -1,5 +1,5 @@
 -- The words of a text: what its tokens are to the first form.
-use Rattle.std.specs.Prelude.{ℕ, ℤ, pos, if◌then◌else◌, List, map, bytes_eq, codes}
+use Rattle.std.specs.Prelude.{ℕ, ℤ, pos, if◌then◌else◌, List, map, drop, bytes_eq, codes}
 use Rattle.std.specs.Str.Parse.{digits_value}
 use Rattle.lexer.specs.Tokens.{token_bytes}
 use Rattle.lexer.specs.declared.token.Token.{Token}
@@ -42,3 +42,7 @@ word_of ShowWord bytes = Foreign
 -- the words that the tokens of a text are
 abbrev pub words_of : List ℕ → List Token → List Word
 words_of text tokens = map (λ token. word_of token.kind (token_bytes text token)) tokens
+
+-- the words from a place of the tokens on
+abbrev pub words_at : List ℕ → List Token → ℕ → List Word
+words_at text tokens at = drop at (words_of text tokens)

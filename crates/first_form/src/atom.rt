@@ -1,7 +1,7 @@
 // Atoms and their arguments, from the left. A place is that of a token, and `depth` is how deep argument lists may nest from there.
-ghost use Rattle.std.specs.Prelude.{◌<◌, ◌≤◌, ◌+◌, [], length, drop, map, IfOk};
+ghost use Rattle.std.specs.Prelude.{◌<◌, ◌≤◌, ◌+◌, [], length, map, IfOk};
 ghost use Rattle.symbols.specs.Table.{symbol_at, IsFront, IsOnce};
-ghost use Rattle.first_form.specs.Word.{words_of};
+ghost use Rattle.first_form.specs.Word.{words_at};
 ghost use Rattle.first_form.specs.Spelled.{AreTokens};
 ghost use Rattle.first_form.specs.Form.{AreKnown};
 ghost use Rattle.first_form.specs.Reading.{Gives, applied_with, atom_at, argument_with, inner_at, joined};
@@ -25,7 +25,7 @@ pub(crate) fn atom(
 ) -> Result<(SymbolId, usize), FormStop>
     requires tokens { AreTokens text.now tokens.now }
     requires shallow { depth ≤ 64 }
-    ensures read { Gives (λ x. (symbol_at symbols.new x.0, drop x.1 (words_of text.now tokens.now))) result (atom_at (length tokens.now + 1) depth (drop at (words_of text.now tokens.now))) }
+    ensures read { Gives (λ x. (symbol_at symbols.new x.0, words_at text.now tokens.now x.1)) result (atom_at (length tokens.now + 1) depth (words_at text.now tokens.now at)) }
     ensures known { IfOk result (λ x. x.0 < length symbols.new) }
     ensures kept { IsFront symbols.old symbols.new }
     ensures once { IsOnce symbols.old → IsOnce symbols.new }
@@ -56,7 +56,7 @@ fn applied(
 ) -> Result<(SymbolId, usize), FormStop>
     requires tokens { AreTokens text.now tokens.now }
     requires shallow { depth ≤ 64 }
-    ensures read { Gives (λ x. (symbol_at symbols.new x.0, drop x.1 (words_of text.now tokens.now))) result (applied_with (length tokens.now + 1) (inner_at (length tokens.now + 1) depth) name.now (drop at (words_of text.now tokens.now))) }
+    ensures read { Gives (λ x. (symbol_at symbols.new x.0, words_at text.now tokens.now x.1)) result (applied_with (length tokens.now + 1) (inner_at (length tokens.now + 1) depth) name.now (words_at text.now tokens.now at)) }
     ensures known { IfOk result (λ x. x.0 < length symbols.new) }
     ensures kept { IsFront symbols.old symbols.new }
     ensures once { IsOnce symbols.old → IsOnce symbols.new }
@@ -84,7 +84,7 @@ fn arguments(
 ) -> Result<(Listed<SymbolId>, usize), FormStop>
     requires tokens { AreTokens text.now tokens.now }
     requires shallow { depth ≤ 64 }
-    ensures read { Gives (λ x. (map (symbol_at symbols.new) x.0, drop x.1 (words_of text.now tokens.now))) result (joined (inner_at (length tokens.now + 1) depth) (length tokens.now + 1) [] (drop at (words_of text.now tokens.now))) }
+    ensures read { Gives (λ x. (map (symbol_at symbols.new) x.0, words_at text.now tokens.now x.1)) result (joined (inner_at (length tokens.now + 1) depth) (length tokens.now + 1) [] (words_at text.now tokens.now at)) }
     ensures known { IfOk result (λ x. AreKnown symbols.new x.0) }
     ensures kept { IsFront symbols.old symbols.new }
     ensures once { IsOnce symbols.old → IsOnce symbols.new }
@@ -115,7 +115,7 @@ fn inner(
 ) -> Result<(SymbolId, usize), FormStop>
     requires tokens { AreTokens text.now tokens.now }
     requires shallow { depth ≤ 64 }
-    ensures read { Gives (λ x. (symbol_at symbols.new x.0, drop x.1 (words_of text.now tokens.now))) result (inner_at (length tokens.now + 1) depth (drop at (words_of text.now tokens.now))) }
+    ensures read { Gives (λ x. (symbol_at symbols.new x.0, words_at text.now tokens.now x.1)) result (inner_at (length tokens.now + 1) depth (words_at text.now tokens.now at)) }
     ensures known { IfOk result (λ x. x.0 < length symbols.new) }
     ensures kept { IsFront symbols.old symbols.new }
     ensures once { IsOnce symbols.old → IsOnce symbols.new }
@@ -139,7 +139,7 @@ fn argument(
 ) -> Result<(SymbolId, usize), FormStop>
     requires tokens { AreTokens text.now tokens.now }
     requires shallow { depth ≤ 64 }
-    ensures read { Gives (λ x. (symbol_at symbols.new x.0, drop x.1 (words_of text.now tokens.now))) result (argument_with (length tokens.now + 1) (inner_at (length tokens.now + 1) depth) (drop at (words_of text.now tokens.now))) }
+    ensures read { Gives (λ x. (symbol_at symbols.new x.0, words_at text.now tokens.now x.1)) result (argument_with (length tokens.now + 1) (inner_at (length tokens.now + 1) depth) (words_at text.now tokens.now at)) }
     ensures known { IfOk result (λ x. x.0 < length symbols.new) }
     ensures kept { IsFront symbols.old symbols.new }
     ensures once { IsOnce symbols.old → IsOnce symbols.new }

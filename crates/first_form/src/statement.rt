@@ -1,8 +1,8 @@
 // Statements, and whole texts of them.
-ghost use Rattle.std.specs.Prelude.{◌≡◌, ◌+◌, List, [], ◌∷◌, length, drop, map, IfOk};
+ghost use Rattle.std.specs.Prelude.{◌≡◌, ◌+◌, List, [], ◌∷◌, length, map, IfOk};
 ghost use Rattle.lexer.specs.Parts.{IsTokenisation};
 ghost use Rattle.symbols.specs.Table.{symbol_at, IsFront, IsOnce};
-ghost use Rattle.first_form.specs.Word.{words_of};
+ghost use Rattle.first_form.specs.Word.{words_of, words_at};
 ghost use Rattle.first_form.specs.Spelled.{AreTokens};
 ghost use Rattle.first_form.specs.Form.{SymbolRule, Derives, rule_in, rules_in, AreKnown, HaveKnown};
 ghost use Rattle.first_form.specs.Reading.{Gives, body_at, statement_at, statements_from};
@@ -36,7 +36,7 @@ fn body(
     symbols: &mut SymbolTable,
 ) -> Result<(Listed<SymbolId>, usize), FormStop>
     requires { AreTokens text.now tokens.now }
-    ensures read { Gives (λ x. (map (symbol_at symbols.new) x.0, drop x.1 (words_of text.now tokens.now))) result (body_at (length tokens.now + 1) MAX_DEPTH (drop at (words_of text.now tokens.now))) }
+    ensures read { Gives (λ x. (map (symbol_at symbols.new) x.0, words_at text.now tokens.now x.1)) result (body_at (length tokens.now + 1) MAX_DEPTH (words_at text.now tokens.now at)) }
     ensures known { IfOk result (λ x. AreKnown symbols.new x.0) }
     ensures kept { IsFront symbols.old symbols.new }
     ensures once { IsOnce symbols.old → IsOnce symbols.new }
@@ -64,7 +64,7 @@ fn statement(
     symbols: &mut SymbolTable,
 ) -> Result<(DefiniteStatement, usize), FormStop>
     requires { AreTokens text.now tokens.now }
-    ensures read { Gives (λ x. (rule_in symbols.new x.0, drop x.1 (words_of text.now tokens.now))) result (statement_at (length tokens.now + 1) MAX_DEPTH (drop at (words_of text.now tokens.now))) }
+    ensures read { Gives (λ x. (rule_in symbols.new x.0, words_at text.now tokens.now x.1)) result (statement_at (length tokens.now + 1) MAX_DEPTH (words_at text.now tokens.now at)) }
     ensures known { IfOk result (λ x. HaveKnown symbols.new (x.0 ∷ [])) }
     ensures kept { IsFront symbols.old symbols.new }
     ensures once { IsOnce symbols.old → IsOnce symbols.new }

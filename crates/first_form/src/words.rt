@@ -1,6 +1,6 @@
 // What stands at a place of the tokens: a name, a number or a mark.
-ghost use Rattle.std.specs.Prelude.{◌≡◌, ◌+◌, ◌<◌, ◌∷◌, length, drop, pos, true, false, IsTrue, IsSome, IfSome, IfNone};
-ghost use Rattle.first_form.specs.Word.{Name, Numeral, words_of, mark_of as mark_word};
+ghost use Rattle.std.specs.Prelude.{◌≡◌, ◌+◌, ◌<◌, ◌∷◌, length, pos, true, false, IsTrue, IsSome, IfSome, IfNone};
+ghost use Rattle.first_form.specs.Word.{Name, Numeral, words_at, mark_of as mark_word};
 ghost use Rattle.first_form.specs.Spelled.{AreTokens, IsSpelled};
 ghost use Rattle.std.specs.Str.Parse.{digits_value};
 ghost use Rattle.first_form.specs.Reading.{is_at, is_name, is_numeral, as_word};
@@ -42,7 +42,7 @@ fn mark_of(bytes: &[u8]) -> Option<Mark>
 // Whether the mark stands at a place.
 pub(crate) fn is_mark(text: &[u8], tokens: &[Token], at: usize, mark: Mark) -> bool
     requires { AreTokens text.now tokens.now }
-    ensures is { result ≡ is_at mark (drop at (words_of text.now tokens.now)) }
+    ensures is { result ≡ is_at mark (words_at text.now tokens.now at) }
     ensures within { IsTrue result → at < length tokens.now }
 {
     if at >= tokens.len() {
@@ -70,8 +70,8 @@ fn ascii_text(bytes: &[u8]) -> Option<&str>
 // The name at a place.
 pub(crate) fn name_at<'a>(text: &'a [u8], tokens: &[Token], at: usize) -> Option<&'a str>
     requires { AreTokens text.now tokens.now }
-    ensures none { IfNone result (is_name (drop at (words_of text.now tokens.now)) ≡ false) }
-    ensures name { IfSome result (λ name. drop at (words_of text.now tokens.now) ≡ Name name.now ∷ drop (at + 1) (words_of text.now tokens.now)) }
+    ensures none { IfNone result (is_name (words_at text.now tokens.now at) ≡ false) }
+    ensures name { IfSome result (λ name. words_at text.now tokens.now at ≡ Name name.now ∷ words_at text.now tokens.now (at + 1)) }
     ensures within { IfSome result (λ name. at < length tokens.now) }
 {
     if at >= tokens.len() {
@@ -99,8 +99,8 @@ fn number_of(digits: &[u8]) -> i32
 // The number at a place.
 pub(crate) fn number_at(text: &[u8], tokens: &[Token], at: usize) -> Option<i32>
     requires { AreTokens text.now tokens.now }
-    ensures none { IfNone result (is_numeral (drop at (words_of text.now tokens.now)) ≡ false) }
-    ensures number { IfSome result (λ n. drop at (words_of text.now tokens.now) ≡ Numeral n ∷ drop (at + 1) (words_of text.now tokens.now)) }
+    ensures none { IfNone result (is_numeral (words_at text.now tokens.now at) ≡ false) }
+    ensures number { IfSome result (λ n. words_at text.now tokens.now at ≡ Numeral n ∷ words_at text.now tokens.now (at + 1)) }
     ensures within { IfSome result (λ n. at < length tokens.now) }
 {
     if at >= tokens.len() {
