@@ -10,3 +10,5 @@ pub mod Products
 pub mod KeptLemmas
 pub mod SizeLemmas
 pub mod FlagLemmas
+pub mod OrderedLemmas
+pub mod PrintLemmas

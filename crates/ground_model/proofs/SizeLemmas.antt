@@ -17,10 +17,10 @@ use Rattle.ground_model.specs.declared.rule.GroundHead.{GroundHead}
 use Rattle.ground_model.specs.declared.rule.GroundHead.TheVariants as h
 use Rattle.ground_model.specs.declared.rule.GroundRule.{GroundRule}
 use Rattle.ground_model.specs.Members.{IsMember}
-use Rattle.ground_model.specs.Answers.{IsWithin}
+use Rattle.ground_model.specs.Answers.{IsNumbered, IsWithin}
 use Rattle.ground_model.specs.Sound
 use Rattle.ground_model.specs.Sound.{is_number, is_small, most, are_sound_pairs, is_sound_linear, occurs, has_few_variables, first_places, is_sound_place, are_different, are_sound_places, is_sound_relation, are_sound_values, is_small_over, is_small_difference, is_sound_literal, is_sound_condition, is_sound_item, is_sound_theory, is_sound_head, is_sound_rule, are_sound_rules}
-use Rattle.ground_model.specs.Sizes.{IsModest, IsSoundPair, IsSizedLinear, AreSizedPlaces, IsSizedRelation, IsNumbered, IsReadable, IsReadableItem, IsReadableTheory, IsReadableHead, IsReadableRule}
+use Rattle.ground_model.specs.Sizes.{IsModest, IsSoundPair, IsSizedLinear, AreSizedPlaces, IsSizedRelation, IsReadable, IsReadableItem, IsReadableTheory, IsReadableHead, IsReadableRule}
 use Rattle.ground_model.specs.World.{World}
 use Rattle.ground_model.specs.Ways.{Way, choice_way, head_ways, ways}
 use Rattle.ground_model.specs.Reduct.{positives, is_kept, definite_of, reduct}
@@ -268,3 +268,13 @@ module _ (atoms variables : ℕ) where
             head = omega arith;
             body = all_at (λ n. n < atoms) (positives d.0.body) (positives_below d.0.body q.1);
           })
+
+-- THE OBJECTIVE
+
+pub sized_objective : (symbols variables : ℕ) (smaller larger : List Place) → Sound.is_sound_objective symbols variables smaller larger ≡ true
+    → AreSizedPlaces variables smaller × AreSizedPlaces variables larger
+sized_objective symbols variables smaller larger e =
+    let p = and_elim (are_sound_places symbols variables smaller && are_sound_places symbols variables larger)
+    (is_small_difference variables (first_places smaller) (first_places larger)) e in
+    let q = and_elim (are_sound_places symbols variables smaller) (are_sound_places symbols variables larger) p.0 in
+    (sized_tuples symbols variables smaller q.0, sized_tuples symbols variables larger q.1)

@@ -1,5 +1,5 @@
 -- The constraint stable models of a program.
-use Rattle.std.specs.Prelude.{◌≡◌, ℕ, ◌-◌, ◌==◌, nat_lt, Bool, true, ◌&&◌, ℤ, pos, ◌≤ℤ◌, List, [], ◌∷◌, map, length, slice_index_or}
+use Rattle.std.specs.Prelude.{◌≡◌, ℕ, ◌-◌, ◌<◌, ◌≤◌, ◌==◌, nat_lt, Bool, true, ◌&&◌, ℤ, pos, ◌≤ℤ◌, List, [], ◌∷◌, map, length, slice_index_or}
 use Rattle.std.specs.List.{AllByRecursion, list_any}
 use Rattle.symbols.specs.declared.ends.Ends.{Ends}
 use Rattle.ground_model.specs.declared.answer.Answer.{Answer}
@@ -25,6 +25,15 @@ value_at values x = slice_index_or values (x - 1) (pos 0)
 -- the list has the atom
 abbrev pub has_atom : List ℕ → ℕ → Bool
 has_atom atoms a = list_any (λ b. b == a) atoms
+
+-- one of so many, counted from 1
+pub record IsNumbered (count n : ℕ) : Type 0 where
+  pub above : 0 < n
+  pub known : n ≤ count
+
+-- each of these is the number of an atom of the program
+abbrev pub AreAtomsOf : GroundProgram → List ℕ → Type 0
+AreAtomsOf program atoms = AllByRecursion (IsNumbered (length program.atoms)) atoms
 
 -- the value lies within the ends
 abbrev pub IsWithin : Ends → ℤ → Type 0

@@ -16,3 +16,4 @@ pub mod World
 pub mod Ways
 pub mod Reduct
 pub mod Sizes
+pub mod Ordered

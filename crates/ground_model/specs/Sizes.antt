@@ -12,6 +12,7 @@ use Rattle.ground_model.specs.declared.rule.ChoiceItem.{ChoiceItem}
 use Rattle.ground_model.specs.declared.rule.GroundHead.{GroundHead}
 use Rattle.ground_model.specs.declared.rule.GroundHead.TheVariants as h
 use Rattle.ground_model.specs.declared.rule.GroundRule.{GroundRule}
+use Rattle.ground_model.specs.Answers.{IsNumbered}
 use Rattle.ground_model.specs.Sound.{most}
 
 -- a value of a variable lies strictly between -2^30 and 2^30
@@ -39,11 +40,6 @@ pub record AreSizedPlaces (variables : ℕ) (places : List Place) : Type 0 where
 pub record IsSizedRelation (variables : ℕ) (relation : Relation) : Type 0 where
   pub elements : AreSizedPlaces variables relation.elements
   pub right : IsSizedLinear variables relation.right
-
--- an atom is one of so many, counted from 1
-pub record IsNumbered (atoms a : ℕ) : Type 0 where
-  pub above : 0 < a
-  pub known : a ≤ atoms
 
 -- a literal names one of so many atoms, or a sized relation over so many variables
 abbrev pub IsReadable : ℕ → ℕ → BodyLit → Type 0

@@ -7,18 +7,23 @@
 #![tactic(auto)]
 
 mod answer;
+mod cost;
 mod definite;
 mod flags;
 mod int_set;
 mod linear;
+mod order;
+mod print;
 mod program;
 mod reduct;
 mod rule;
 mod value;
 
 pub use answer::Answer;
+pub use cost::objective;
 pub use definite::definite_answer;
 pub use int_set::IntSet;
 pub use linear::{Linear, Place, Relation};
+pub use print::write_answer;
 pub use program::GroundProgram;
 pub use rule::{BodyLit, Bound, ChoiceItem, GroundChoice, GroundHead, GroundRule, TheoryHead};
