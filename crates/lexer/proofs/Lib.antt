@@ -2,6 +2,12 @@ pub mod ByteLemmas
 pub mod FormLemmas
 pub mod LexemeLemmas
 pub mod NumberLemmas
+pub mod NameLemmas
+pub mod MarkLemmas
+pub mod StringLemmas
+pub mod CommentLemmas
+pub mod WordLemmas
 pub mod PartLemmas
 pub mod TokenLemmas
+pub mod Utf8Lemmas
 pub mod OneLemmas

@@ -1,13 +1,20 @@
--- The value of digits, read from the front.
-use Rattle.std.proofs.Common.{◌≡◌, ℕ, ◌+◌, ◌*◌, ◌-◌, ◌<◌, ◌≤◌, ◌^◌, true, false, List, [], ◌∷◌, drop, length, get_or, refl, subst, arith, add-one, drop-cons}
-use Rattle.std.specs.List.{list_all}
+-- The value of digits, read from the front, and the number at the front.
+use Rattle.std.proofs.Common.{◌≡◌, ℕ, suc, ◌+◌, ◌*◌, ◌-◌, ◌<◌, ◌≤◌, ◌^◌, Bool, true, false, List, [], ◌∷◌, take, drop, length, get_or, refl, sym, subst, arith, add-one, drop-cons}
+use Rattle.std.specs.List.{list_all, prefix_len}
 use Rattle.std.specs.Char.{digit_value}
 use Rattle.std.specs.Str.Parse.{digits_value, digits_value_after}
-use Rattle.std.proofs.lemmas.Bool.{and_parts, le-leb, lt-leb}
-use Rattle.std.proofs.lemmas.List.{drop_all}
+use Rattle.std.proofs.lemmas.Bool.{and_parts, and_from, le-leb, lt-leb}
+use Rattle.std.proofs.lemmas.List.{drop_all, take-append-drop}
 use Rattle.std.proofs.lemmas.Bool.Decides.{nat_tests}
+use Rattle.lexer.specs.declared.token.TokenKind.TheVariants.{Num}
+use Rattle.lexer.specs.declared.lexeme.Lexeme.TheVariants.{Single}
 use Rattle.lexer.specs.Bytes.{is_digit}
-use Rattle.lexer.specs.Forms.{is_too_large}
+use Rattle.lexer.specs.Forms.{is_digits, is_too_large, is_number}
+use Rattle.lexer.specs.Faults.{BeginsDigits}
+use Rattle.lexer.specs.Lexeme.{IsLexeme}
+use Rattle.lexer.proofs.ByteLemmas.{run_all}
+use Rattle.lexer.proofs.FormLemmas.{longest_digits}
+use Rattle.lexer.proofs.LexemeLemmas.{run_begins, run_lexeme}
 
 pub value_of_digit : (b : ℕ) → is_digit b ≡ true → digit_value b ≡ b - 48
 value_of_digit b h = grind (arith, nat_tests)
@@ -19,7 +26,7 @@ value_grows n (d ∷ ds) =
     let more = value_grows (n * 10 + digit_value d) ds in
     omega arith
 
--- what is left of the digits, where the first of them was read up to a value
+-- what is left of the digits, where the first of them were read up to a value
 pub record ValueLeft (digits left : List ℕ) (value : ℕ) : Type 0 where
   pub small : value < 2 ^ 31
   pub same : digits_value_after 10 value left ≡ digits_value 10 digits
@@ -61,3 +68,27 @@ value_ends digits i value l left =
     let e : drop i digits ≡ [] = drop_all i digits l in
     let same : value ≡ digits_value 10 digits = rw e at left.same in
     lt-leb (2 ^ 31) (digits_value 10 digits) (omega (arith, same, left.small))
+
+-- the digits at the front
+pub digits_front : (rest : List ℕ) → 0 < length rest → is_digit (get_or rest 0 0) ≡ true → is_digits (take (prefix_len is_digit rest) rest) ≡ true
+digits_front [] l d = absurd (omega arith)
+digits_front (b ∷ r) l d =
+    let n = prefix_len is_digit r in
+    let e : 1 + n ≡ suc n = omega arith in
+    rw (d, e) (and_from (is_digit b) (list_all is_digit (take n r)) d (run_all is_digit r))
+
+-- a run of digits that a test finds
+pub run_digits : (test : List ℕ → Bool) (rest : List ℕ) (n : ℕ) → n ≡ prefix_len is_digit rest → 0 < length rest → is_digit (get_or rest 0 0) ≡ true → test (take n rest) ≡ true
+    → BeginsDigits test rest
+run_digits test rest n e l d found = record {
+  digits = take n rest;
+  behind = drop n rest;
+  begins = sym (take-append-drop n rest);
+  run = rw e (run_begins is_digit longest_digits Num rest (digits_front rest l d));
+  found = found;
+}
+
+-- the number at the front
+pub num_lexeme : (rest : List ℕ) (n : ℕ) → n ≡ prefix_len is_digit rest → 0 < length rest → is_digit (get_or rest 0 0) ≡ true → is_number (take n rest) ≡ true
+    → IsLexeme rest (Single Num n)
+num_lexeme rest n e l d h = run_lexeme is_digit longest_digits Num rest n e (rw e (digits_front rest l d)) h

@@ -4,3 +4,4 @@ pub mod Parts
 pub mod Tokens
 pub mod Faults
 pub mod Lexeme
+pub mod Places

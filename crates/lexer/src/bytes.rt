@@ -1,7 +1,7 @@
 // Classes of bytes, and runs of one class.
 ghost use Rattle.std.specs.Prelude.{◌≡◌};
 ghost use Rattle.std.specs.List.{prefix_len};
-ghost use Rattle.lexer.specs.Bytes.{is_blank, is_digit, is_lower, is_name_byte};
+ghost use Rattle.lexer.specs.Bytes.{is_blank, is_digit, is_lower, is_upper, is_underscore, is_name_byte, is_name_first};
 
 pub(crate) fn is_blank(byte: u8) -> bool
     ensures { result ≡ is_blank byte }
@@ -21,14 +21,31 @@ pub(crate) fn is_lower(byte: u8) -> bool
     b'a' <= byte && byte <= b'z'
 }
 
+pub(crate) fn is_upper(byte: u8) -> bool
+    ensures { result ≡ is_upper byte }
+{
+    b'A' <= byte && byte <= b'Z'
+}
+
+// Whether a name may begin with it.
+pub(crate) fn is_name_first(byte: u8) -> bool
+    ensures { result ≡ is_name_first byte }
+{
+    is_lower(byte) || is_upper(byte) || byte == b'_'
+}
+
+// Whether it may stand in a name.
 fn is_name_byte(byte: u8) -> bool
     ensures { result ≡ is_name_byte byte }
 {
-    is_lower(byte)
-        || (b'A' <= byte && byte <= b'Z')
-        || is_digit(byte)
-        || byte == b'_'
-        || byte == b'\''
+    is_lower(byte) || is_upper(byte) || is_digit(byte) || byte == b'_' || byte == b'\''
+}
+
+// How many bytes at the front are underscores.
+pub(crate) fn underscores(rest: &[u8]) -> usize
+    ensures { result ≡ prefix_len is_underscore rest.now }
+{
+    rest.iter().take_while(|byte| **byte == b'_').count()
 }
 
 // How many bytes at the front are digits.

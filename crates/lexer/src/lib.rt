@@ -1,15 +1,23 @@
 //! The tokens of a text, or the first place where it has none.
 //!
-//! A text is parted into tokens, the longest taken at each place, with blanks alone between them.
-//! Stands on `symbols` for `Listed` and `Memory`.
+//! A text is parted into tokens, the longest taken at each place, with blanks and comments alone
+//! between them. Stands on `symbols` for `Listed` and `Memory`.
 #![tactic(auto)]
 
 mod bytes;
+mod comment;
 mod law;
 mod lexeme;
+mod mark;
+mod name;
+mod number;
+mod place;
 mod reading;
+mod string;
 mod token;
+mod word;
 
 pub use law::one_answer;
+pub use place::line_column;
 pub use reading::tokens;
 pub use token::{LexCause, LexFault, LexStop, Token, TokenKind};

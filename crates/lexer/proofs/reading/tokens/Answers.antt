@@ -1,29 +1,20 @@
-use Rattle.std.proofs.Common.{arith}
-use Rattle.lexer.proofs.PartLemmas.{reach, read_more, fault_read, all_read_empty}
-use Rattle.lexer.proofs.TokenLemmas.{all_tokens, in_order}
+use Rattle.std.proofs.Common.{refl, sym, subst, inl, ℕ}
+use Rattle.std.specs.List.{All}
+use Rattle.lexer.specs.Parts.{IsParted}
+use Rattle.lexer.specs.Tokens.{IsTokenOf, IsInOrder}
+use Rattle.lexer.specs.Faults.{IsNotUtf8}
+use Rattle.lexer.proofs.TokenLemmas.{all_tokens, in_order, if_ok}
+use Rattle.lexer.proofs.Utf8Lemmas.{ends_there}
 use Rattle.lexer.proofs.reading.tokens.Goals as goal
 
-pub overflow_sub-at : goal.overflow_sub-at
-overflow_sub-at c = omega (arith, reach c.loop-rest.invariant)
+pub returns-in-Ok-clause-each : goal.returns-in-Ok-clause-each
+returns-in-Ok-clause-each c =
+    if_ok c.read.result (IsParted c.args.text.now) (λ ts. All (IsTokenOf c.args.text.now) ts) (all_tokens c.args.text.now) c.read.ensures.ok
 
-pub loop-rest-preserved : goal.loop-rest-preserved
-loop-rest-preserved c =
-    read_more c.args.text.now c.loop-rest.tokens c.loop-rest.rest.now c.in-Ok.lexeme c.push_token.new.tokens c.split_at.result.1.now
-    c.loop-rest.invariant c.in-Ok.ensures.ok c.in_ok-push_token-in-Ok.ensures c.split_at.ensures.back
+pub returns-in-Ok-clause-order : goal.returns-in-Ok-clause-order
+returns-in-Ok-clause-order c = if_ok c.read.result (IsParted c.args.text.now) (λ ts. IsInOrder 0 ts) (in_order c.args.text.now) c.read.ensures.ok
 
 pub returns-in-Err-clause-fault : goal.returns-in-Err-clause-fault
 returns-in-Err-clause-fault c =
-    fault_read c.args.text.now c.loop-rest.tokens c.loop-rest.rest.now c.in-Err.fault.cause c.in-Err.fault.at c.loop-rest.invariant c.in-Err.ensures.fault
-
-pub returns-clause-ok : goal.returns-clause-ok
-returns-clause-ok c = all_read_empty c.args.text.now c.loop-rest.tokens c.loop-rest.rest.now c.is_empty.result c.loop-rest.invariant c.is_empty.ensures c.loop-rest-test.false
-
-pub returns-clause-each : goal.returns-clause-each
-returns-clause-each c =
-    all_tokens c.args.text.now c.loop-rest.tokens
-    (all_read_empty c.args.text.now c.loop-rest.tokens c.loop-rest.rest.now c.is_empty.result c.loop-rest.invariant c.is_empty.ensures c.loop-rest-test.false)
-
-pub returns-clause-order : goal.returns-clause-order
-returns-clause-order c =
-    in_order c.args.text.now c.loop-rest.tokens
-    (all_read_empty c.args.text.now c.loop-rest.tokens c.loop-rest.rest.now c.is_empty.result c.loop-rest.invariant c.is_empty.ensures c.loop-rest-test.false)
+    let P : ℕ → Type 0 = λ n. IsNotUtf8 c.args.text.now n in
+    inl (refl, subst P (sym c.valid_up_to.ensures) (ends_there c.args.text.now c.in-Err.error.valid_up_to c.in-Err.ensures.cases.1))

@@ -1,6 +1,6 @@
 use Rattle.std.proofs.Common.{length}
 use Rattle.lexer.proofs.PartLemmas.{ReadSoFar}
-use Rattle.lexer.proofs.reading.tokens.Given as goal
+use Rattle.lexer.proofs.reading.read.Given as goal
 
 abbrev pub invariant-loop-rest : goal.invariant-loop-rest
 invariant-loop-rest l = ReadSoFar l.text l.tokens l.rest

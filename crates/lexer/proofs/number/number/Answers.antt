@@ -3,8 +3,8 @@ use Rattle.std.proofs.lemmas.Bool.{and_from, not_from_false}
 use Rattle.lexer.specs.Bytes.{is_digit}
 use Rattle.lexer.specs.Forms.{is_zero_led, is_too_large}
 use Rattle.lexer.proofs.ByteLemmas.{run_all_at}
-use Rattle.lexer.proofs.LexemeLemmas.{run_digits, num_lexeme}
-use Rattle.lexer.proofs.lexeme.number.Goals as goal
+use Rattle.lexer.proofs.NumberLemmas.{run_digits, num_lexeme}
+use Rattle.lexer.proofs.number.number.Goals as goal
 
 pub returns-then-is_zero_led-clause-fault : goal.returns-then-is_zero_led-clause-fault
 returns-then-is_zero_led-clause-fault c =

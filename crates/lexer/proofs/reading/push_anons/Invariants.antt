@@ -1,0 +1,6 @@
+use Rattle.std.proofs.Common.{◌≡◌, ◌++◌}
+use Rattle.lexer.specs.Lexeme.{anon_tokens}
+use Rattle.lexer.proofs.reading.push_anons.Given as goal
+
+abbrev pub invariant-loop-index : goal.invariant-loop-index
+invariant-loop-index l = l.tokens ≡ l.initial.tokens ++ anon_tokens l.at l.index
