@@ -1,0 +1,5 @@
+pub mod OrderLaws
+pub mod Puts
+pub mod Merges
+pub mod Worlds
+pub mod LitLaws

@@ -1,3 +1,4 @@
 pub mod Truths
 pub mod Lits
 pub mod Nogoods
+pub mod Parts

@@ -1,5 +1,5 @@
 -- Nogoods: the order of their literals, the one list for a set of literals, and resolution.
-use Rattle.std.specs.Prelude.{ℕ, ◌+◌, ◌*◌, Bool, true, false, not, cond, ◌&&◌, ◌||◌, ◌==◌, nat_lt, IsTrue, List, [], ◌∷◌, Option, None, Some}
+use Rattle.std.specs.Prelude.{ℕ, ◌+◌, ◌*◌, Bool, not, cond, ◌&&◌, ◌||◌, ◌==◌, nat_lt, IsTrue, List, [], ◌∷◌, Option, None, Some}
 use Rattle.std.specs.List.{fold, filter, find, list_any, All, AllByRecursion}
 use Rattle.literals.specs.Lits.{IsLit, complement_of, implies_lit, same_lit}
 use Rattle.literals.specs.declared.lit.Lit.{Lit}
@@ -57,6 +57,10 @@ joined lits more = fold put_lit lits more
 abbrev pub canonical : List Lit → List Lit
 canonical lits = joined [] lits
 
+-- whether the literal is in the list
+abbrev pub has_lit : List Lit → Lit → Bool
+has_lit lits l = list_any (λ x. same_lit x l) lits
+
 -- the list without this literal
 abbrev pub without : List Lit → Lit → List Lit
 without lits l = filter (λ x. not (same_lit x l)) lits
@@ -73,4 +77,4 @@ resolved left pivot right (Some q) = Some (joined (without left pivot) (without 
 -- the two resolved at the pivot: nothing where the left one lacks the pivot, or the right one an answer to it
 abbrev pub resolvent : List Lit → Lit → List Lit → Option (List Lit)
 resolvent left pivot right =
-    cond (list_any (λ x. same_lit x pivot) left) (resolved left pivot right (find (answers pivot) right)) None
+    cond (has_lit left pivot) (resolved left pivot right (find (answers pivot) right)) None

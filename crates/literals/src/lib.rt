@@ -8,9 +8,13 @@
 #![tactic(auto)]
 
 mod lit;
+mod merge;
 mod nogood;
+mod order;
 mod reason;
+#[cfg(test)]
+mod tests;
 
 pub use lit::{Lit, complement, implies};
-pub use nogood::Nogood;
+pub use nogood::{Nogood, resolve};
 pub use reason::{Reason, Step};

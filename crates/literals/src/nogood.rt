@@ -1,10 +1,17 @@
 // Nogoods: lists of literals that are never all true, and resolution.
-ghost use Rattle.std.specs.Prelude.{◌≡◌};
-ghost use Rattle.literals.specs.Nogoods.{IsNogood};
+ghost use Rattle.std.specs.Prelude.{◌≡◌, IfOk, IfSome};
+ghost use Rattle.std.specs.List.{All, find};
+ghost use Rattle.literals.specs.Truths.{Truths, all_true, Meets};
+ghost use Rattle.literals.specs.Lits.{IsLit};
+ghost use Rattle.literals.specs.Nogoods.{IsNogood, canonical, has_lit, answers, resolvent};
 
-use crate::lit::Lit;
+use crate::lit::{Lit, complement, implies};
+use crate::merge::{merge, sorted};
+use crate::order::same;
 use smallvec::SmallVec;
+use std::alloc::Global;
 use std::marker::Model;
+use symbols::Memory;
 
 /// Literals that are never all true. Clauses see it as the list of them: sorted, and with at most one
 /// bound on each side of a variable.
@@ -28,7 +35,39 @@ impl Model for Nogood {
     ghost invariant = { λ n. IsNogood n.items.items };
 }
 
+// Whether the literal is among these.
+fn has(lits: &[Lit], lit: Lit) -> bool
+    ensures { result ≡ has_lit lits.now lit }
+{
+    lits.iter().any(|x| same(*x, lit))
+}
+
+// The literal whose opposite implies the pivot.
+fn answer_to(lits: &[Lit], pivot: Lit) -> Option<Lit>
+    requires { All IsLit lits.now }
+    ensures { result ≡ find (answers pivot) lits.now }
+{
+    for q in lits {
+        if implies(complement(*q), pivot) {
+            return Some(*q);
+        }
+    }
+    None
+}
+
 impl Nogood {
+    /// The nogood of these literals. Of two bounds on one side of a variable it keeps the stronger.
+    ///
+    /// Linear where they are sorted, else O(n log n).
+    pub fn from_lits(alloc: Global, lits: &[Lit]) -> Result<Nogood, Memory>
+        requires { All IsLit lits.now }
+        ensures value { IfOk result (λ n. n ≡ canonical lits.now) }
+        ensures same { IfOk result (λ n. (t : Truths) → all_true t n ≡ all_true t lits.now) }
+    {
+        let items = sorted(alloc, lits)?;
+        Ok(Nogood { items })
+    }
+
     /// The literals, in order.
     #[inline]
     pub fn lits(&self) -> &[Lit]
@@ -37,4 +76,27 @@ impl Nogood {
     {
         self.items.as_slice()
     }
+}
+
+/// The two resolved at the pivot: `left` without it, joined with `right` without the literal whose
+/// opposite implies it.
+///
+/// One merge: linear in the two lengths.
+pub fn resolve(
+    alloc: Global,
+    left: &Nogood,
+    pivot: Lit,
+    right: &Nogood,
+) -> Result<Option<Nogood>, Memory>
+    ensures value { IfOk result (λ r. r ≡ resolvent left.now pivot right.now) }
+    ensures sound { IfOk result (λ r. IfSome r (λ n. (t : Truths) → Meets t left.now → Meets t right.now → Meets t n)) }
+{
+    if !has(left.lits(), pivot) {
+        return Ok(None);
+    }
+    let Some(q) = answer_to(right.lits(), pivot) else {
+        return Ok(None);
+    };
+    let items = merge(alloc, left.lits(), Some(pivot), right.lits(), Some(q))?;
+    Ok(Some(Nogood { items }))
 }

@@ -1,0 +1,56 @@
+// The order of a nogood's literals.
+ghost use Rattle.std.specs.Prelude.{◌≡◌};
+ghost use Rattle.literals.specs.Lits.{same_lit};
+ghost use Rattle.literals.specs.Nogoods.{kind_of, index_of, is_before, stronger};
+
+use crate::lit::{Lit, implies};
+
+// Which kind of literal it is, in the order of a nogood.
+#[inline]
+fn kind(lit: Lit) -> u8
+    ensures { result ≡ kind_of lit }
+{
+    match lit {
+        Lit::Atom(..) => 0,
+        Lit::Body(..) => 1,
+        Lit::Constraint(..) => 2,
+        Lit::AtMost(..) | Lit::AtLeast(..) => 3,
+    }
+}
+
+// Where it stands among the literals of its kind.
+#[inline]
+fn index(lit: Lit) -> u64
+    ensures { result ≡ index_of lit }
+{
+    match lit {
+        Lit::Atom(n, sign) | Lit::Body(n, sign) | Lit::Constraint(n, sign) => 2 * u64::from(n)
+            + u64::from(!sign),
+        Lit::AtMost(x, _) => 2 * u64::from(x),
+        Lit::AtLeast(x, _) => 2 * u64::from(x) + 1,
+    }
+}
+
+// Whether `a` stands before `b`.
+#[inline]
+pub(crate) fn before(a: Lit, b: Lit) -> bool
+    ensures { result ≡ is_before a b }
+{
+    kind(a) < kind(b) || kind(a) == kind(b) && index(a) < index(b)
+}
+
+// Whether the two are one literal.
+#[inline]
+pub(crate) fn same(a: Lit, b: Lit) -> bool
+    ensures { result ≡ same_lit a b }
+{
+    implies(a, b) && implies(b, a)
+}
+
+// The stronger of two literals of one place.
+#[inline]
+pub(crate) fn stronger_of(a: Lit, b: Lit) -> Lit
+    ensures { result ≡ stronger a b }
+{
+    if implies(a, b) { a } else { b }
+}
