@@ -67,4 +67,4 @@ each_lies text (token ∷ tokens) h = (
 
 -- the tokens of a text lie in it
 pub tokens_lie : (text : List ℕ) (tokens : List Token) → IsTokenisation text tokens → AreTokens text tokens
-tokens_lie text tokens h = each_lies text tokens (each_token text tokens h)
+tokens_lie text tokens h = each_lies text tokens (each_token text tokens h.parted)

@@ -1,6 +1,6 @@
 // The one answer of a definite program.
 ghost use Rattle.std.specs.Prelude.{IsTrue, IfOk};
-ghost use Rattle.ground_model.specs.Answers.{IsOnlyAnswer};
+ghost use Rattle.ground_model.specs.Answers.{AreAtomsOf, IsOnlyAnswer};
 ghost use Rattle.ground_model.specs.Definite.{is_definite};
 
 use crate::answer::Answer;
@@ -16,7 +16,8 @@ use symbols::{Listed, Memory};
 /// It takes time linear in the program.
 pub fn definite_answer(alloc: Global, program: &GroundProgram) -> Result<Answer, Memory>
     requires { IsTrue (is_definite program.now) }
-    ensures { IfOk result (λ answer. IsOnlyAnswer program.now answer) }
+    ensures only { IfOk result (λ answer. IsOnlyAnswer program.now answer) }
+    ensures atoms { IfOk result (λ answer. AreAtomsOf program.now answer.atoms) }
 {
     let none = vec![in alloc; false; program.atoms.len() + 1]?;
     let rules = reduct(alloc, program.rules.items(), &none, &[])?;

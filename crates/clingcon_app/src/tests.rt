@@ -1,0 +1,132 @@
+// Rows of the top call, over inputs and outputs in memory.
+use crate::{Report, run};
+use outside_io::{MemoryFile, MemoryFiles, MemorySink};
+use std::alloc::Global;
+use std::process::Abort;
+use std::test::Fail;
+use symbols::{Listed, Memory};
+
+// The inputs that hold one text under one name.
+fn holding(alloc: Global, name: &str, text: &str) -> Result<MemoryFiles, Memory> {
+    let mut files = Listed::new(alloc);
+    files.push(MemoryFile {
+        name: Listed::from_slice(alloc, name.as_bytes())?,
+        bytes: Listed::from_slice(alloc, text.as_bytes())?,
+    })?;
+    MemoryFiles::new(alloc, files, Listed::new(alloc))
+}
+
+// An output whose call with this number fails, counted from 1; 0 for none.
+fn failing(alloc: Global, number: u64) -> Result<MemorySink, Memory> {
+    let mut numbers = Listed::new(alloc);
+    numbers.push(number)?;
+    MemorySink::new(alloc, numbers)
+}
+
+// What a run on the text under `-` printed, and how it ended.
+fn run_on(alloc: Global, text: &str, fails: u64) -> Result<(Report, MemorySink), Memory> {
+    let mut files = holding(alloc, "-", text)?;
+    let mut out = failing(alloc, fails)?;
+    let mut proof = failing(alloc, 0)?;
+    let report = run(alloc, &[], &mut files, &mut out, &mut proof);
+    Ok((report, out))
+}
+
+fn assert_prints(
+    rt: &impl Abort,
+    alloc: Global,
+    text: &str,
+    status: u8,
+    printed: &str,
+) -> Result<(), Memory> {
+    let (report, out) = run_on(alloc, text, 0)?;
+    assert!(rt; report.status == status);
+    assert!(rt; out.bytes() == printed.as_bytes());
+    Ok(())
+}
+
+#[test]
+fn prints_the_one_answer(rt: HostRuntime) -> Result<(), Fail> {
+    let rows = [
+        ("", "Answer: 1\n\nSATISFIABLE\n"),
+        (
+            "b :- a. a. c :- d. p(f(1),2) :- b, a.",
+            "Answer: 1\na b p(f(1),2)\nSATISFIABLE\n",
+        ),
+        ("a :- b. b :- a.", "Answer: 1\n\nSATISFIABLE\n"),
+        (
+            "q(10). q(9). q(a). a'. % more\nq(a,0).",
+            "Answer: 1\na' q(9) q(10) q(a) q(a,0)\nSATISFIABLE\n",
+        ),
+    ];
+    for (text, printed) in rows {
+        assert_prints(&rt, rt.alloc(), text, 10, printed)?;
+    }
+    Ok(())
+}
+
+#[test]
+fn refuses_what_is_not_built(rt: HostRuntime) -> Result<(), Fail> {
+    for text in [
+        "{a}.",
+        "a",
+        "a :- not b.",
+        "p(X).",
+        "p(1..2).",
+        "p(01).",
+        ":- a.",
+        "p().",
+    ] {
+        assert_prints(&rt, rt.alloc(), text, 71, "error: not built\n")?;
+    }
+    Ok(())
+}
+
+#[test]
+fn reports_one_answer_and_no_conflict(rt: HostRuntime) -> Result<(), Fail> {
+    let (report, _out) = run_on(rt.alloc(), "a.", 0)?;
+    assert!(rt; report.status == 10 && report.answers == 1);
+    assert!(rt; report.conflicts == 0 && report.best.is_none());
+    Ok(())
+}
+
+#[test]
+fn ends_at_a_name_that_is_not_held(rt: HostRuntime) -> Result<(), Fail> {
+    let alloc = rt.alloc();
+    let mut files = holding(alloc, "there", "a.")?;
+    let mut out = failing(alloc, 0)?;
+    let mut proof = failing(alloc, 0)?;
+    let words = [String::from_str(alloc, "here")?];
+    let report = run(alloc, &words, &mut files, &mut out, &mut proof);
+    assert!(rt; report.status == 66);
+    assert!(rt; out.bytes().is_empty());
+    Ok(())
+}
+
+// The calls on the output are the block, the ending and the flush.
+#[test]
+fn ends_at_each_failing_call(rt: HostRuntime) -> Result<(), Fail> {
+    let rows = [
+        (1, ""),
+        (2, "Answer: 1\na\n"),
+        (3, "Answer: 1\na\nSATISFIABLE\n"),
+    ];
+    for (number, printed) in rows {
+        let (report, out) = run_on(rt.alloc(), "a.", number)?;
+        assert!(rt; report.status == 67);
+        assert!(rt; out.bytes() == printed.as_bytes());
+    }
+    Ok(())
+}
+
+#[test]
+fn refuses_two_words(rt: HostRuntime) -> Result<(), Fail> {
+    let alloc = rt.alloc();
+    let mut files = holding(alloc, "a", "a.")?;
+    let mut out = failing(alloc, 0)?;
+    let mut proof = failing(alloc, 0)?;
+    let words = [String::from_str(alloc, "a")?, String::from_str(alloc, "a")?];
+    let report = run(alloc, &words, &mut files, &mut out, &mut proof);
+    assert!(rt; report.status == 71);
+    Ok(())
+}
