@@ -9,5 +9,6 @@ pub mod CommentLemmas
 pub mod WordLemmas
 pub mod PartLemmas
 pub mod TokenLemmas
+pub mod TokenFacts
 pub mod Utf8Lemmas
 pub mod OneLemmas

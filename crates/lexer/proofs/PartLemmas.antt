@@ -4,6 +4,7 @@ use Rattle.std.specs.Bool.{◌==◌}
 use Rattle.std.proofs.lemmas.Bool.{eqb-true}
 use Rattle.std.proofs.lemmas.List.{drop_at, nil_from_length}
 use Rattle.lexer.specs.declared.token.Token.{Token}
+use Rattle.lexer.specs.declared.token.LexFault.{LexFault}
 use Rattle.lexer.specs.declared.token.LexCause.{LexCause}
 use Rattle.lexer.specs.declared.token.LexCause.TheVariants.{NotUtf8, OpenString, OpenComment, BadCharacter, NumberTooLarge}
 use Rattle.lexer.specs.declared.token.TokenKind.TheVariants.{Num}
@@ -140,3 +141,10 @@ fault_within BadCharacter on rest (inr h) =
 fault_within NumberTooLarge on rest h =
     let some = digits_some (λ digits. not (is_zero_led digits) && is_too_large digits) rest h.1 in
     omega (arith, h.0)
+
+-- so it stands within the text
+pub stop_within : (text : List ℕ) (fault : LexFault) → IsStopped text fault → fault.at < length text
+stop_within text fault s =
+    let on = fault_within fault.cause s.on s.rest s.has in
+    let long : length text ≡ length (parts_text s.parts []) + length s.rest = ap length (s.whole ∙ parts_text-rest s.parts s.rest) ∙ length-append (parts_text s.parts []) s.rest in
+    omega (arith, s.place)

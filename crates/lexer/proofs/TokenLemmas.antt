@@ -6,6 +6,10 @@ use Rattle.std.specs.Prelude.{IfOk, Result, Ok, Err}
 use Rattle.std.proofs.lemmas.List.Elements.{All-from_recursion}
 use Rattle.lexer.specs.declared.token.TokenKind.{TokenKind}
 use Rattle.lexer.specs.declared.token.Token.{Token}
+use Rattle.lexer.specs.declared.token.LexFault.{LexFault}
+use Rattle.lexer.specs.declared.token.LexStop.{LexStop}
+use Rattle.lexer.specs.declared.token.LexStop.TheVariants.{Fault, Memory}
+use Rattle.lexer.specs.Faults.{IfFault}
 use Rattle.lexer.specs.Forms.{has_form, is_sound}
 use Rattle.lexer.specs.Parts.{Part, blank, line_comment, comment, token, part_bytes, parts_text, tokens_of, Stands, AllStand, IsParted}
 use Rattle.lexer.specs.Tokens.{IsTokenOf, IsInOrder}
@@ -92,3 +96,8 @@ all_tokens text tokens is = All-from_recursion (IsTokenOf text) tokens (each_tok
 pub if_ok : {E : Type 0} (result : Result (List Token) E) (p q : List Token → Type 0) → ((tokens : List Token) → p tokens → q tokens) → IfOk result p → IfOk result q
 if_ok (Ok tokens) p q w h = w tokens h
 if_ok (Err e) p q w h = tt
+
+pub if_fault : {A : Type 0} (result : Result A LexStop) (p q : LexFault → Type 0) → ((fault : LexFault) → p fault → q fault) → IfFault result p → IfFault result q
+if_fault (Ok found) p q w h = tt
+if_fault (Err (Fault fault)) p q w h = w fault h
+if_fault (Err Memory) p q w h = tt

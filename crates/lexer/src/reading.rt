@@ -77,6 +77,7 @@ pub fn tokens(alloc: Global, text: &[u8]) -> Result<Listed<Token>, LexStop>
     ensures each { IfOk result (λ tokens. All (IsTokenOf text.now) tokens) }
     ensures order { IfOk result (λ tokens. IsInOrder 0 tokens) }
     ensures fault { IfFault result (λ fault. IsFirstFault text.now fault) }
+    ensures place { IfFault result (λ fault. fault.at < length text.now) }
 {
     match from_utf8(text) {
         Ok(_) => read(alloc, text),
@@ -90,7 +91,7 @@ pub fn tokens(alloc: Global, text: &[u8]) -> Result<Listed<Token>, LexStop>
 #[cfg(test)]
 mod tests {
     use super::*;
-    use crate::token::{LexCause, TokenKind};
+    use crate::place::line_column;
 
     // Whether a text has these tokens, each with its kind, its start and its end.
     fn has(alloc: Global, text: &[u8], wanted: &[(TokenKind, usize, usize)]) -> bool {
@@ -110,10 +111,13 @@ mod tests {
         }
     }
 
-    // Whether the first fault of a text stands at this byte and has this cause.
-    fn stops(alloc: Global, text: &[u8], at: usize, cause: LexCause) -> bool {
+    // Whether the first fault of a text stands at this line and column and has this cause.
+    fn stops(alloc: Global, text: &[u8], line: usize, column: usize, cause: LexCause) -> bool {
         match tokens(alloc, text) {
-            Err(LexStop::Fault(fault)) => fault.at == at && fault.cause == cause,
+            Err(LexStop::Fault(fault)) => {
+                let place = line_column(text, fault.at);
+                fault.cause == cause && place.0 == line && place.1 == column
+            }
             _ => false,
         }
     }
@@ -127,21 +131,72 @@ mod tests {
             (TokenKind::Mark, 13, 14),
             (TokenKind::Num, 14, 15),
             (TokenKind::Mark, 15, 16),
-            (TokenKind::Num, 16, 18),
-            (TokenKind::Mark, 18, 19),
-            (TokenKind::Mark, 19, 20),
-            (TokenKind::NotWord, 22, 25),
-            (TokenKind::Mark, 25, 26),
+            (TokenKind::Num, 16, 26),
+            (TokenKind::Mark, 26, 27),
+            (TokenKind::Mark, 27, 28),
+            (TokenKind::NotWord, 30, 33),
+            (TokenKind::Mark, 33, 34),
         ];
-        assert!(rt; has(rt.alloc(), b"not_a' :- __b(0,21),\n\tnot.", &wanted));
+        assert!(rt; has(rt.alloc(), b"not_a' :- __b(0,2147483647),\n\tnot.", &wanted));
+    }
+
+    #[test]
+    fn reads_names_and_words(rt: HostRuntime) {
+        let wanted = [
+            (TokenKind::Var, 0, 4),
+            (TokenKind::Anon, 5, 6),
+            (TokenKind::Anon, 6, 7),
+            (TokenKind::Anon, 8, 9),
+            (TokenKind::Num, 9, 10),
+            (TokenKind::Id, 11, 15),
+            (TokenKind::ConstWord, 16, 22),
+            (TokenKind::ShowWord, 22, 27),
+            (TokenKind::Id, 27, 28),
+        ];
+        assert!(rt; has(rt.alloc(), b"_X1' __ _1 not' #const#showx", &wanted));
+    }
+
+    #[test]
+    fn reads_strings_comments_and_marks(rt: HostRuntime) {
+        let strings = [
+            (TokenKind::Text, 0, 13),
+            (TokenKind::Text, 13, 15),
+            (TokenKind::Mark, 15, 17),
+        ];
+        assert!(rt; has(rt.alloc(), b"\"\\\\ \\\" \\n \xc3\xa9\"\"\"..", &strings));
+        let marks = [
+            (TokenKind::Id, 0, 1),
+            (TokenKind::Mark, 18, 20),
+            (TokenKind::Mark, 20, 21),
+            (TokenKind::Mark, 21, 23),
+            (TokenKind::Mark, 23, 25),
+            (TokenKind::Mark, 25, 26),
+            (TokenKind::Mark, 26, 28),
+        ];
+        assert!(rt; has(rt.alloc(), b"a%* b\n%**% %c *% \n..:!=<=<>=%", &marks));
     }
 
     #[test]
     fn finds_the_first_fault(rt: HostRuntime) {
-        let alloc = rt.alloc();
-        assert!(rt; stops(alloc, b"p(01).", 3, LexCause::BadCharacter));
-        assert!(rt; has(alloc, b"2147483647", &[(TokenKind::Num, 0, 10)]));
-        assert!(rt; stops(alloc, b"p(2147483648).", 2, LexCause::NumberTooLarge));
-        assert!(rt; stops(alloc, b"a :\n| b", 4, LexCause::BadCharacter));
+        let rows = [
+            (b"p(01).".as_slice(), 1, 4, LexCause::BadCharacter),
+            (b"a.\nb | c".as_slice(), 2, 3, LexCause::BadCharacter),
+            (b"a \xc3\xa9".as_slice(), 1, 3, LexCause::BadCharacter),
+            (b"s(\"open".as_slice(), 1, 3, LexCause::OpenString),
+            (b"a.\n s(\"open\n\")".as_slice(), 2, 4, LexCause::OpenString),
+            (b"s(\"\\t\").".as_slice(), 1, 3, LexCause::OpenString),
+            (b"a. %* b *\n%".as_slice(), 1, 4, LexCause::OpenComment),
+            (b" %*%".as_slice(), 1, 2, LexCause::OpenComment),
+            (
+                b"a\n  2147483648".as_slice(),
+                2,
+                3,
+                LexCause::NumberTooLarge,
+            ),
+            (b"01 \"\n a\xff".as_slice(), 2, 3, LexCause::NotUtf8),
+        ];
+        for (text, line, column, cause) in rows {
+            assert!(rt; stops(rt.alloc(), text, line, column, cause));
+        }
     }
 }
