@@ -11,4 +11,6 @@ pub mod PartLemmas
 pub mod TokenLemmas
 pub mod TokenFacts
 pub mod Utf8Lemmas
+pub mod KindLemmas
+pub mod PlaceLemmas
 pub mod OneLemmas

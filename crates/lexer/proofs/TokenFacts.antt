@@ -1,15 +1,18 @@
--- What a caller may use of a token of a text: the bytes of a name, and the value of a number.
-use Rattle.std.proofs.Common.{◌≡◌, ℕ, zero, suc, ◌<◌, ◌^◌, true, false, not, List, [], ◌∷◌, subst, arith}
+-- What a caller may use of a token of a text: the bytes of a name, the value of a number, the inside of a string.
+use Rattle.std.proofs.Common.{sym, get_or, Bool, ◌≡◌, ℕ, zero, suc, ◌<◌, ◌^◌, true, false, not, List, [], ◌∷◌, subst, arith, ◌+◌, ◌-◌, length, drop, ap, ◌∙◌, inl, inr}
 use Rattle.std.specs.List.{list_all}
 use Rattle.std.specs.Str.{IsUtf8, IsAscii}
 use Rattle.std.specs.Str.Parse.{digits_value}
-use Rattle.std.proofs.lemmas.Str.{IsUtf8-from_ascii}
-use Rattle.std.proofs.lemmas.Bool.{and_parts, not-true, leb-false}
+use Rattle.std.proofs.lemmas.Str.{IsUtf8-from_ascii, IsUtf8-between, IsCharBoundary-after_ascii, IsCharBoundary-before_ascii}
+use Rattle.std.proofs.lemmas.Bool.{and_parts, not-true, leb-false, cases_Bool, eqb-true}
+use Rattle.std.proofs.lemmas.List.{get_or-take, get_or-drop, length-take, length-drop}
+use Rattle.std.specs.Prelude.{slice_range}
+use Rattle.std.specs.Bool.{◌==◌}
 use Rattle.lexer.specs.declared.token.TokenKind.{TokenKind}
-use Rattle.lexer.specs.declared.token.TokenKind.TheVariants.{Num, Id, Var}
+use Rattle.lexer.specs.declared.token.TokenKind.TheVariants.{Num, Id, Var, Text}
 use Rattle.lexer.specs.declared.token.Token.{Token}
-use Rattle.lexer.specs.Bytes.{is_lower, is_upper, is_name_byte}
-use Rattle.lexer.specs.Forms.{has_form, is_name, is_digits, is_zero_led, is_too_large, is_number, is_sound}
+use Rattle.lexer.specs.Bytes.{is_lower, is_upper, is_name_byte, is_escape}
+use Rattle.lexer.specs.Forms.{has_form, is_name, is_digits, is_zero_led, is_too_large, is_number, is_sound, is_string, closes, is_nothing}
 use Rattle.lexer.specs.Tokens.{IsTokenOf, token_bytes}
 use Rattle.lexer.proofs.ByteLemmas.{name_from_lower, name_from_upper, name_below}
 use Rattle.lexer.proofs.FormLemmas.{name_all, id_name}
@@ -60,3 +63,54 @@ num_bytes text token is e =
       leads = not-true (is_zero_led bytes) parts.0;
       fits = leb-false (2 ^ 31) (digits_value 10 bytes) (not-true (is_too_large bytes) parts.1);
     }
+
+last_behind : (b : ℕ) (r : List ℕ) → (0 < length r) × (get_or r (length r - 1) 0 ≡ 34) → (0 < length (b ∷ r)) × (get_or (b ∷ r) (length (b ∷ r) - 1) 0 ≡ 34)
+last_behind b r (some, last) =
+    let e : length (b ∷ r) - 1 ≡ suc (length r - 1) = omega arith in
+    (omega arith, ap (λ n. get_or (b ∷ r) n 0) e ∙ last)
+
+last_alone : (b : ℕ) (r : List ℕ) → b ≡ 34 → is_nothing r ≡ true → get_or (b ∷ r) (length (b ∷ r) - 1) 0 ≡ 34
+last_alone b [] q h = q
+last_alone b (c ∷ r) q h = cc
+
+-- the last byte of what closes is a quote
+closes_last : (xs : List ℕ) (escaped : Bool) → closes xs escaped ≡ true → (0 < length xs) × (get_or xs (length xs - 1) 0 ≡ 34)
+closes_last [] escaped h = cc
+closes_last (b ∷ r) true h = last_behind b r (closes_last r false (and_parts (is_escape b) (closes r false) h).1)
+closes_last (b ∷ r) false h =
+    elim (cases_Bool (b == 34)) [
+      | inl quote ↦ (omega arith, last_alone b r (eqb-true b 34 quote) (rw quote at h))
+      | inr other ↦
+          elim (cases_Bool (b == 10)) [
+            | inl feed ↦ let e : false ≡ true = rw (other, feed) at h in cc
+            | inr inside ↦
+                let inner : closes r (b == 92) ≡ true = rw (other, inside) at h in
+                last_behind b r (closes_last r (b == 92) inner)
+          ]
+    ]
+
+-- the first and the last byte of a string are quotes, and it has two at least
+string_ends : (bytes : List ℕ) → is_string bytes ≡ true → (get_or bytes 0 0 ≡ 34) × (1 < length bytes) × (get_or bytes (length bytes - 1) 0 ≡ 34)
+string_ends [] h = cc
+string_ends (b ∷ r) h =
+    let parts = and_parts (b == 34) (closes r false) h in
+    let last = closes_last r false parts.1 in
+    let some = last.0 in
+    (eqb-true b 34 parts.0, omega arith, (last_behind b r last).1)
+
+-- the inside of a string of a text that is UTF-8 is UTF-8
+pub inside_utf8 : (text : List ℕ) (token : Token) → IsUtf8 text → IsTokenOf text token → token.kind ≡ Text → IsUtf8 (slice_range text (token.start + 1) (token.«end» - 1))
+inside_utf8 text token u is e =
+    let s : ℕ = token.start in
+    let t : ℕ = token.«end» in
+    let some = is.some in
+    let fits = is.within in
+    let bytes : List ℕ = token_bytes text token in
+    let ends = string_ends bytes (form_at Text text token is e) in
+    let long : length bytes ≡ t - s = length-take (t - s) (drop s text) ∙ (let d = length-drop s text in omega arith) in
+    let two = ends.1 in
+    let at : (i : ℕ) → i < t - s → get_or bytes i 0 ≡ get_or text (s + i) 0 = λ i l. get_or-take (t - s) (drop s text) i 0 l ∙ get_or-drop s text i 0 in
+    let first : get_or text s 0 ≡ 34 = ap (λ n. get_or text n 0) (let z : s ≡ s + 0 = omega arith in z) ∙ sym (at 0 (omega arith)) ∙ ends.0 in
+    let place : s + (length bytes - 1) ≡ t - 1 = omega arith in
+    let last : get_or text (t - 1) 0 ≡ 34 = ap (λ n. get_or text n 0) (sym place) ∙ sym (at (length bytes - 1) (omega arith)) ∙ ends.2 in
+    IsUtf8-between text (s + 1) (t - 1) u (omega arith) (IsCharBoundary-after_ascii text s u (omega arith) (omega arith)) (IsCharBoundary-before_ascii text (t - 1) (omega arith) (omega arith))

@@ -56,7 +56,7 @@ begins_long_mark [] = false
 begins_long_mark (byte ∷ []) = false
 begins_long_mark (first ∷ second ∷ rest) = is_long_mark first second
 
--- how many bytes a string's inside takes with its closing quote, and as many more
+-- where a string's inside ends behind its closing quote, if it closes: a number of bytes further on than the count given
 abbrev pub string_from : ℕ → List ℕ → Bool → Option ℕ
 string_from more [] escaped = None
 string_from more (byte ∷ rest) true = (if is_escape byte then string_from (more + 1) rest false else None)

@@ -45,7 +45,7 @@ begins_close [] = false
 begins_close (byte ∷ []) = false
 begins_close (first ∷ second ∷ rest) = (first == 42) && (second == 37)
 
--- how many bytes stand before the first `*%`, and as many more
+-- where the first `*%` begins, if there is one: a number of bytes further on than the count given
 abbrev pub close_from : ℕ → List ℕ → Option ℕ
 close_from more [] = None
 close_from more (byte ∷ rest) = (if begins_close (byte ∷ rest) then Some more else close_from (more + 1) rest)
