@@ -1,0 +1,5 @@
+pub mod ImpliedLaws
+pub mod CellLaws
+pub mod AppliedLaws
+pub mod RevertedLaws
+pub mod KeptLaws
