@@ -3,3 +3,5 @@ pub mod CellLaws
 pub mod AppliedLaws
 pub mod RevertedLaws
 pub mod KeptLaws
+pub mod GrowthLaws
+pub mod AssignmentLaws
