@@ -1,7 +1,7 @@
 -- What holds of every trail: a literal and its opposite are never both true, bounds meet, and undoing leaves the first entries.
-use Rattle.std.proofs.Common.{◌≡◌, ℕ, ◌+◌, ◌<◌, ◌≤◌, ◌||◌, nat_le, Bool, true, false, cond, not, List, [], ◌∷◌, ◌++◌, map, length, Option, None, Some, refl, sym, ◌∙◌, ap, subst, arith, ℤ, ◌≤ℤ◌, pos, ◌+ℤ◌, ◌-ℤ◌, append_assoc}
+use Rattle.std.proofs.Common.{◌≡◌, ℕ, ◌<◌, ◌≤◌, ◌||◌, nat_le, Bool, true, false, cond, List, [], ◌∷◌, ◌++◌, None, Some, refl, sym, ◌∙◌, ap, arith, ℤ, ◌≤ℤ◌, pos, ◌-ℤ◌, append_assoc}
 use Rattle.std.specs.Prelude.{int_le}
-use Rattle.std.specs.List.{filter, list_any}
+use Rattle.std.specs.List.{filter}
 use Rattle.std.proofs.lemmas.Bool.Decides.{nat_tests}
 use Rattle.std.proofs.lemmas.Int.{ints}
 use Rattle.std.proofs.lemmas.List.{map-append, append-nil}
@@ -12,8 +12,8 @@ use Rattle.literals.specs.Lits.{implies_lit, complement_of}
 use Rattle.literals.proofs.LitLaws.{complement-complement, implies_complements}
 use Rattle.trail.specs.declared.shape.Shape.{Shape}
 use Rattle.trail.specs.declared.entry.Entry.{Entry}
-use Rattle.trail.specs.Implied.{ends_imply, implied, truth_of, lower_of, upper_of}
-use Rattle.trail.specs.Assignment.{Assignment, Names, lits_of, is_true_on, truth_on, lower_on, upper_on, Follow, IsAssignment, undone_to}
+use Rattle.trail.specs.Implied.{ends_imply, implied, truth_of}
+use Rattle.trail.specs.Assignment.{Assignment, lits_of, is_true_on, truth_on, lower_on, upper_on, Follow, IsAssignment, undone_to}
 use Rattle.trail.proofs.ImpliedLaws.{implied-push, implied_stays, implied_trans, implied-at_most, implied-at_least, open_is}
 use Rattle.trail.proofs.KeptLaws.{follow_low}
 

@@ -262,7 +262,7 @@ last-push place last (x ∷ xs) m l =
 pub latest-push : (lits : List Lit) (m l : Lit) → latest (lits ++ m ∷ []) l ≡ cond (same_cell m l) (Some (length lits)) (latest lits l)
 latest-push lits m l = let e : 0 + length lits ≡ length lits = omega arith in last-push 0 None lits m l ∙ ap (λ i. cond (same_cell m l) (Some i) (latest lits l)) e
 
-cell_same : (x m l : Lit) → same_cell m l ≡ true → same_cell x m ≡ same_cell x l
+pub cell_same : (x m l : Lit) → same_cell m l ≡ true → same_cell x m ≡ same_cell x l
 cell_same (Atom n s) (Atom p r) (Atom q t) e = ap (λ z. n == z) (equal p q e)
 cell_same (Body n s) (Atom p r) (Atom q t) e = refl
 cell_same (Constraint n s) (Atom p r) (Atom q t) e = refl

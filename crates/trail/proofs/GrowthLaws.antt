@@ -1,6 +1,6 @@
 -- A trail that grows: one entry, one growth after another, and what stays as it grows.
-use Rattle.std.proofs.Common.{◌≡◌, ℕ, suc, ◌+◌, ◌≤◌, Bool, true, false, cond, List, [], ◌∷◌, ◌++◌, map, length, None, refl, sym, ◌∙◌, ap, subst, arith, ℤ, ◌≤ℤ◌, pos, ◌-ℤ◌, append_assoc}
-use Rattle.std.specs.Prelude.{int_le, fold}
+use Rattle.std.proofs.Common.{◌≡◌, ℕ, ◌+◌, ◌≤◌, Bool, true, false, cond, List, [], ◌∷◌, ◌++◌, length, refl, sym, ◌∙◌, ap, subst, arith, ℤ, ◌≤ℤ◌, pos, ◌-ℤ◌, append_assoc}
+use Rattle.std.specs.Prelude.{int_le}
 use Rattle.std.proofs.lemmas.Bool.Decides.{nat_tests}
 use Rattle.std.proofs.lemmas.Int.{ints}
 use Rattle.std.proofs.lemmas.List.{append-nil, length-append, map-append}
@@ -12,7 +12,7 @@ use Rattle.trail.specs.declared.entry.Entry.{Entry}
 use Rattle.trail.specs.declared.entry.Why.{Why}
 use Rattle.trail.specs.declared.entry.Placed.TheVariants.{Done}
 use Rattle.trail.specs.Implied.{implied}
-use Rattle.trail.specs.Assignment.{Assignment, Names, lits_of, is_true_on, truth_on, lower_on, upper_on, with_entry, entry_of, orders_with, Places, IsAssignment}
+use Rattle.trail.specs.Assignment.{Assignment, Names, lits_of, is_true_on, lower_on, upper_on, with_entry, entry_of, orders_with, Places, IsAssignment}
 use Rattle.trail.specs.Growth.{with_entries, IsNext, EachNext, Grows}
 use Rattle.trail.proofs.ImpliedLaws.{implied_stays, implied-at_most, implied-at_least}
 use Rattle.trail.proofs.KeptLaws.{follow_push, orders_variables}

@@ -5,3 +5,4 @@ pub mod RevertedLaws
 pub mod KeptLaws
 pub mod GrowthLaws
 pub mod AssignmentLaws
+pub mod SinceLaws

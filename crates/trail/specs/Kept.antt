@@ -1,8 +1,10 @@
 -- What the fields of a trail keep. Only the trail's own code reads this file.
-use Rattle.std.specs.Prelude.{◌≡◌, ℕ, ◌+◌, ◌*◌, ◌^◌, ◌==◌, ◌≤◌, ◌≤ℤ◌, neg_ℤ, Bool, false, cond, ℤ, pos, List, [], ◌∷◌, ◌++◌, length, get_or, map, Option, None, Some}
+use Rattle.std.specs.Prelude.{◌≡◌, ℕ, ◌+◌, ◌*◌, ◌^◌, ◌==◌, ◌≤◌, ◌≤ℤ◌, neg_ℤ, Bool, false, cond, ℤ, pos, List, [], ◌∷◌, ◌++◌, length, get_or, map, Option, None, Some, true}
+use Rattle.std.specs.List.{AllByRecursion}
 use Rattle.symbols.specs.declared.ends.Ends.{Ends}
 use Rattle.literals.specs.declared.lit.Lit.{Lit}
 use Rattle.literals.specs.declared.lit.Lit.TheVariants.{Atom, Body, Constraint, AtMost, AtLeast}
+use Rattle.literals.specs.Lits.{implies_lit}
 use Rattle.trail.specs.declared.shape.Shape.{Shape}
 use Rattle.trail.specs.declared.entry.Entry.{Entry}
 use Rattle.trail.specs.declared.entry.Slot.{Slot}
@@ -62,6 +64,7 @@ abbrev pub Saved : Ends → List Lit → List Slot → Type 0
 Saved ends before [] = Unit {0}
 Saved ends before (t ∷ ts) = SavesBound ends before t.entry.lit t.saved × (t.mark ≡ latest before t.entry.lit) × Saved ends (before ++ t.entry.lit ∷ []) ts
 
+-- the entries of these slots
 abbrev pub entries_of : List Slot → List Entry
 entries_of slots = map (λ t. t.entry) slots
 
@@ -80,3 +83,15 @@ IsBoundOf variables (Body n sign) = Unit {0}
 IsBoundOf variables (Constraint n sign) = Unit {0}
 IsBoundOf variables (AtMost x k) = x ≤ variables
 IsBoundOf variables (AtLeast x k) = (x ≤ variables) × (neg_ℤ (pos (2 ^ 30)) ≤ℤ k)
+
+-- each literal of the same cell among these follows from this one
+abbrev pub Outdoes : List Lit → Lit → Type 0
+Outdoes before l = AllByRecursion (λ m. same_cell m l ≡ true → implies_lit l m ≡ true) before
+
+-- each slot is marked with the last literal of its cell before it, and outdoes those; the first stands after these literals
+abbrev pub Marked : List Lit → List Slot → Type 0
+Marked before [] = Unit {0}
+Marked before (t ∷ ts) = (t.mark ≡ latest before t.entry.lit) × Outdoes before t.entry.lit × Marked (before ++ t.entry.lit ∷ []) ts
+
+abbrev pub AreMarked : List Slot → Type 0
+AreMarked slots = Marked [] slots

@@ -10,6 +10,7 @@
 mod cells;
 mod entry;
 mod shape;
+mod since;
 #[cfg(test)]
 mod tests;
 mod trail;

@@ -1,11 +1,12 @@
 // The trail.
 ghost use Rattle.std.specs.Prelude.{◌≡◌, ◌<◌, ◌≤◌, ◌+◌, [], length, slice_get, Some, IfOk, OnOk, OnErr};
-ghost use Rattle.trail.specs.Assignment.{Assignment, truth_on, lower_on, upper_on, Names, undone_to, Places, orders_with, IsAssignment};
+ghost use Rattle.trail.specs.Assignment.{Assignment, truth_on, lower_on, upper_on, since_on, Names, undone_to, Places, orders_with, IsAssignment};
 ghost use Rattle.trail.specs.Kept.{IsBoundOf};
 
 use crate::cells::Cells;
 use crate::entry::{Entry, Placed, Slot, Why};
 use crate::shape::Shape;
+use crate::since::{first_of, is_by_ends};
 use crate::undo::{drop_last, pop_above, take_back};
 use literals::Lit;
 use order_literals::OrderTable;
@@ -127,6 +128,18 @@ impl Trail {
         self.cells.truth(lit)
     }
 
+    /// The place of the entry at which the literal became true: nothing where the ends imply it, or no
+    /// entry does. O(1) but for a bound, where it costs the later entries of that bound.
+    pub fn since(&self, lit: Lit) -> Option<usize>
+        requires { Names self.now.shape lit }
+        ensures { result ≡ since_on self.now lit }
+    {
+        if is_by_ends(self.shape.ends, lit) {
+            return None;
+        }
+        first_of(&self.slots, lit, self.cells.mark(lit))
+    }
+
     /// Opens the next level.
     pub fn open_level(&mut self) -> Result<(), Memory>
         ensures ok { OnOk result (self.new ≡ record self.old { level = self.old.level + 1 }) }
@@ -146,6 +159,8 @@ impl Trail {
         requires { Names self.old.shape lit }
         ensures ok { IfOk result (λ placed. Places self.old lit why placed self.new) }
         ensures err { OnErr result (self.new ≡ self.old) }
+        ensures shape { self.new.shape ≡ self.old.shape }
+        ensures level { self.new.level ≡ self.old.level }
     {
         match self.cells.truth(lit) {
             Some(true) => return Ok(Placed::Already),
