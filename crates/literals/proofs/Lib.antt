@@ -3,3 +3,4 @@ pub mod Puts
 pub mod Merges
 pub mod Worlds
 pub mod LitLaws
+pub mod SameLaws
