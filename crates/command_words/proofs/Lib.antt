@@ -1,0 +1,7 @@
+mod NumberLemmas
+mod FormLemmas
+mod StepLemmas
+mod WalkLemmas
+mod UseLemmas
+mod ReadLemmas
+mod ReadingLemmas

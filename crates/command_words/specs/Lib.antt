@@ -1,0 +1,7 @@
+pub mod Numbers
+pub mod Answers
+pub mod Words
+pub mod Settings
+pub mod Matches
+pub mod Forms
+pub mod Found
