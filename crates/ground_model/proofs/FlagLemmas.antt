@@ -1,10 +1,9 @@
 -- The numbers of flags ascend, and are those of the flags that are set.
-use Rattle.std.proofs.Common.{◌≡◌, ◌<◌, ◌≤◌, ◌+◌, ◌-◌, ◌⊎◌, inl, inr, ℕ, zero, suc, Bool, true, false, ◌==◌, nat_lt, List, [], ◌∷◌, length, refl, sym, subst, true≢false, eqb-true, arith}
+use Rattle.std.proofs.Common.{◌≡◌, ◌<◌, ◌≤◌, ◌+◌, ◌-◌, ◌⊎◌, inl, inr, ℕ, zero, suc, Bool, true, false, ◌==◌, nat_lt, List, [], ◌∷◌, refl, sym, subst, true≢false, eqb-true, arith}
 use Rattle.std.proofs.lemmas.Bool.Decides.{nat_tests}
 use Rattle.definite_rules.specs.Least.{flag_at, IsLeastModel}
 use Rattle.ground_model.specs.declared.program.GroundProgram.{GroundProgram}
-use Rattle.std.specs.List.{AllByRecursion}
-use Rattle.ground_model.specs.Answers.{IsNumbered, ascend_from, has_atom, IsOnlyAnswer}
+use Rattle.ground_model.specs.Answers.{ascend_from, has_atom, IsOnlyAnswer}
 use Rattle.ground_model.specs.Definite.{is_definite}
 use Rattle.ground_model.specs.Reduct.{reduct}
 use Rattle.ground_model.specs.World.{World, flagged_from}
@@ -59,11 +58,3 @@ flagged_only program world flags given least =
     (λ place rank d.
     let s : 1 + place ≡ suc place = omega arith in
     subst (λ a. has_atom (flagged_from 1 flags) a ≡ true) s (number_of_flag 1 place flags (is.closed place rank d)))
-
--- the numbers of flags are those of so many atoms
-pub flagged_numbers : (n count : ℕ) (flags : List Bool) → 0 < n → n + length flags ≤ count + 1
-    → AllByRecursion (IsNumbered count) (flagged_from n flags)
-flagged_numbers n count [] above fits = tt
-flagged_numbers n count (true ∷ flags) above fits =
-    (record { above = above; known = omega arith }, flagged_numbers (n + 1) count flags (omega arith) (omega arith))
-flagged_numbers n count (false ∷ flags) above fits = flagged_numbers (n + 1) count flags (omega arith) (omega arith)

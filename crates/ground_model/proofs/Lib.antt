@@ -12,3 +12,9 @@ pub mod SizeLemmas
 pub mod FlagLemmas
 pub mod OrderedLemmas
 pub mod PrintLemmas
+pub mod AnswerLemmas
+pub mod SameProgram
+pub mod SpanLemmas
+pub mod DutyLemmas
+pub mod MarkLemmas
+pub mod CheckLemmas

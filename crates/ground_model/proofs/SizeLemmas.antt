@@ -241,7 +241,7 @@ module _ (atoms variables : ℕ) where
   append_property P [] ys p q = q
   append_property P (x ∷ xs) ys p q = (p.0, append_property P xs ys p.1 q)
 
-  way_below : (body : List BodyLit) → AllByRecursion (IsReadable atoms variables) body → (head : GroundHead) → IsReadableHead atoms variables head
+  pub way_below : (body : List BodyLit) → AllByRecursion (IsReadable atoms variables) body → (head : GroundHead) → IsReadableHead atoms variables head
       → (way : Way) → IsMember (head_ways body head) way → IsNumbered atoms way.atom × AllByRecursion (IsReadable atoms variables) way.body
   way_below body r h.Nothing s way m = absurd m
   way_below body r (h.Theory theory) s way m = absurd m

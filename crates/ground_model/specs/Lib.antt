@@ -17,3 +17,6 @@ pub mod Ways
 pub mod Reduct
 pub mod Sizes
 pub mod Ordered
+pub mod Duties
+pub mod Spans
+pub mod Agreement

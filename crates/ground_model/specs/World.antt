@@ -1,5 +1,5 @@
 -- Worlds: a set of atoms and a value for each variable, both by number.
-use Rattle.std.specs.Prelude.{ℕ, ◌+◌, Bool, true, false, ℤ, List, [], ◌∷◌, slice_index_or}
+use Rattle.std.specs.Prelude.{◌≡◌, ℕ, ◌+◌, Bool, true, false, ℤ, List, [], ◌∷◌, slice_index_or}
 use Rattle.ground_model.specs.declared.answer.Answer.{Answer}
 use Rattle.ground_model.specs.Answers.{value_at, has_atom}
 
@@ -21,3 +21,7 @@ abbrev pub flagged_from : ℕ → List Bool → List ℕ
 flagged_from n [] = []
 flagged_from n (true ∷ flags) = n ∷ flagged_from (n + 1) flags
 flagged_from n (false ∷ flags) = flagged_from (n + 1) flags
+
+-- no flag is set
+abbrev pub AreClear : List Bool → Type 0
+AreClear flags = (a : ℕ) → slice_index_or flags a false ≡ false

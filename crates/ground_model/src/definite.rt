@@ -17,7 +17,7 @@ use symbols::{Listed, Memory};
 pub fn definite_answer(alloc: Global, program: &GroundProgram) -> Result<Answer, Memory>
     requires { IsTrue (is_definite program.now) }
     ensures only { IfOk result (λ answer. IsOnlyAnswer program.now answer) }
-    ensures atoms { IfOk result (λ answer. AreAtomsOf program.now answer.atoms) }
+    ensures known { IfOk result (λ answer. AreAtomsOf program.now answer.atoms) }
 {
     let none = vec![in alloc; false; program.atoms.len() + 1]?;
     let rules = reduct(alloc, program.rules.items(), &none, &[])?;

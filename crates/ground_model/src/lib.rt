@@ -7,8 +7,11 @@
 #![tactic(auto)]
 
 mod answer;
+mod check;
+mod copy;
 mod cost;
 mod definite;
+mod duties;
 mod flags;
 mod int_set;
 mod linear;
@@ -17,9 +20,12 @@ mod print;
 mod program;
 mod reduct;
 mod rule;
+mod theory;
 mod value;
 
 pub use answer::Answer;
+pub use check::is_answer;
+pub use copy::copy_ground;
 pub use cost::objective;
 pub use definite::definite_answer;
 pub use int_set::IntSet;

@@ -48,7 +48,7 @@ pub(crate) fn sum_value(places: &[Place], values: &[i32]) -> i128
 }
 
 // Whether a number stands in the relation to another.
-fn compare(rel: Rel, left: i128, right: i128) -> bool
+pub(crate) fn compare(rel: Rel, left: i128, right: i128) -> bool
     ensures { result ≡ compares rel left right }
 {
     match rel {

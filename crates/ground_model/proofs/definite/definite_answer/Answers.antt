@@ -4,14 +4,15 @@ use Rattle.definite_rules.specs.Rule.{DefiniteRule, IsBelow}
 use Rattle.definite_rules.specs.Least.{IsLeastModel}
 use Rattle.ground_model.specs.declared.program.GroundProgram.{GroundProgram}
 use Rattle.ground_model.specs.declared.rule.GroundRule.{GroundRule}
-use Rattle.ground_model.specs.Answers.{IsNumbered, IsOnlyAnswer}
+use Rattle.ground_model.specs.Answers.{IsOnlyAnswer}
 use Rattle.ground_model.specs.Definite.{is_definite}
 use Rattle.ground_model.specs.Reduct.{reduct}
 use Rattle.ground_model.specs.Sizes.{IsReadableRule}
 use Rattle.ground_model.specs.World.{world_by, flagged_from}
 use Rattle.ground_model.proofs.DefiniteLaw.{no_variables}
 use Rattle.ground_model.proofs.SizeLemmas.{readable_rules, reduct_below}
-use Rattle.ground_model.proofs.FlagLemmas.{flagged_only, flagged_numbers}
+use Rattle.ground_model.proofs.AnswerLemmas.{answer_atoms}
+use Rattle.ground_model.proofs.FlagLemmas.{flagged_only}
 use Rattle.ground_model.proofs.definite.definite_answer.Goals as goal
 
 readable : (program : GroundProgram) → is_definite program ≡ true → AllByRecursion (IsReadableRule (length program.atoms) 0) program.rules
@@ -30,8 +31,8 @@ least_model-requires c =
     (reduct_below (length c.args.program.now.atoms) 0 c.items.result.now (world_by c.deref.result.now [])
     (rw c.items.ensures (readable c.args.program.now c.requires)))
 
-pub returns-clause-only : goal.returns-clause-only
-returns-clause-only c =
+only : (c : goal.After-drop-none-2) → IsOnlyAnswer c.args.program.now (record { atoms = c.in_ok-atoms.atoms; values = c.new-values.result })
+only c =
     let program = c.args.program.now in
     let world = world_by c.deref.result.now [] in
     let rules : c.in_ok-rules.rules ≡ reduct program.rules world = c.in_ok-rules.ensures ∙ ap (λ (rs : List GroundRule). reduct rs world) c.items.ensures in
@@ -40,10 +41,8 @@ returns-clause-only c =
     subst₂ (λ x y. IsOnlyAnswer program (record { atoms = x; values = y })) (sym atoms) (sym c.new-values.ensures)
     (flagged_only program world c.in_ok-least.least c.requires least)
 
-pub returns-clause-atoms : goal.returns-clause-atoms
-returns-clause-atoms c =
-    let program = c.args.program.now in
-    let atoms : c.in_ok-atoms.atoms ≡ flagged_from 1 c.in_ok-least.least = c.in_ok-atoms.ensures ∙ ap (flagged_from 1) c.items-2.ensures in
-    let as_many : length c.in_ok-least.least ≡ length program.atoms = c.in_ok-least.ensures.length ∙ c.len-2.ensures in
-    subst (λ (numbers : List ℕ). AllByRecursion (IsNumbered (length program.atoms)) numbers) (sym atoms)
-      (flagged_numbers 1 (length program.atoms) c.in_ok-least.least (omega arith) (omega arith))
+pub returns-clause-only : goal.returns-clause-only
+returns-clause-only c = only c
+
+pub returns-clause-known : goal.returns-clause-known
+returns-clause-known c = answer_atoms c.args.program.now (record { atoms = c.in_ok-atoms.atoms; values = c.new-values.result }) (only c).one
