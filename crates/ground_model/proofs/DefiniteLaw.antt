@@ -55,7 +55,7 @@ definite_reduct rules world e = ap (map definite_of) (filter_all (is_kept world)
         let d = and_elim (gives_atom r.0.head) (list_all is_positive r.0.body) (all_member is_definite_rule rules r.0 e r.1) in
         way_kept world r.0.body r.0.head d.1 d.0 way r.2
 
-no_items : {X : Type 0} (xs : List X) → length xs ≡ 0 → xs ≡ []
+pub no_items : {X : Type 0} (xs : List X) → length xs ≡ 0 → xs ≡ []
 no_items [] e = refl
 no_items (x ∷ xs) e = absurd (omega arith)
 

@@ -18,3 +18,4 @@ pub mod SpanLemmas
 pub mod DutyLemmas
 pub mod MarkLemmas
 pub mod CheckLemmas
+pub mod LawProofs

@@ -70,3 +70,21 @@ module _ {A : Type 0} (rules : Rules A) (model : A → Bool) where
   head_derivable derived name a head holds =
       let r = one_rank (rules.body name) (true_holds IsDerivable derived (rules.body name) holds) in
       (suc r.0, inl (name, head, r.1))
+
+  -- what a rule gives from derivable atoms is derivable
+  pub derivable_from_some : (a : A) → Gives rules model IsDerivable a → IsDerivable a
+  derivable_from_some a (inl gives) = let r = one_rank (rules.body gives.0) gives.2 in (suc r.0, inl (gives.0, gives.1, r.1))
+  derivable_from_some a (inr gives) =
+      let body = one_rank (rules.body gives.0) gives.4 in
+      let condition = one_rank (rules.item gives.0 gives.1).condition gives.5 in
+      let up = λ (low : ℕ) (le : low ≤ body.0 + condition.0) (b : A) (d : Derivable rules model low b). rank_le low (body.0 + condition.0) le b d in (
+        suc (body.0 + condition.0),
+        inr (
+          gives.0,
+          gives.1,
+          gives.2,
+          gives.3,
+          body_up (Derivable rules model body.0) (Derivable rules model (body.0 + condition.0)) (up body.0 (omega arith)) (rules.body gives.0) body.1,
+          body_up (Derivable rules model condition.0) (Derivable rules model (body.0 + condition.0)) (up condition.0 (omega arith)) (rules.item gives.0 gives.1).condition condition.1,
+        ),
+      )

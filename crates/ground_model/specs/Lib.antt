@@ -20,3 +20,4 @@ pub mod Ordered
 pub mod Duties
 pub mod Spans
 pub mod Agreement
+pub mod Laws

@@ -14,6 +14,7 @@ mod definite;
 mod duties;
 mod flags;
 mod int_set;
+mod laws;
 mod linear;
 mod order;
 mod print;
@@ -29,6 +30,10 @@ pub use copy::copy_ground;
 pub use cost::objective;
 pub use definite::definite_answer;
 pub use int_set::IntSet;
+pub use laws::{
+    definite_programs_have_one_model, ranks_do_not_matter, reducts_determine_models,
+    spans_share_integers, stable_models_are_least, tests_decide_models,
+};
 pub use linear::{Linear, Place, Relation};
 pub use print::write_answer;
 pub use program::GroundProgram;
