@@ -6,3 +6,4 @@ pub mod KeptLaws
 pub mod GrowthLaws
 pub mod AssignmentLaws
 pub mod SinceLaws
+pub mod EntryLaws
