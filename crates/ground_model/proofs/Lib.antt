@@ -19,3 +19,4 @@ pub mod DutyLemmas
 pub mod MarkLemmas
 pub mod CheckLemmas
 pub mod LawProofs
+pub mod Examples

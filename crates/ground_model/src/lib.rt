@@ -21,6 +21,8 @@ mod print;
 mod program;
 mod reduct;
 mod rule;
+#[cfg(test)]
+mod tests;
 mod theory;
 mod value;
 
