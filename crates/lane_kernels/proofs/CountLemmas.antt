@@ -24,15 +24,23 @@ count_from_next a b lows highs i j e l h =
     let next : j ≡ suc i = omega arith in
     rw next (count_from_suc a b lows highs i l h)
 
-pub count_from_four : (a b : ℤ) (lows highs : List ℤ) (i : ℕ) → i + 4 ≤ length lows → i + 4 ≤ length highs
-    → count_from a b lows highs i
-    ≡ count_at a b lows highs i + (count_at a b lows highs (i + 1) + (count_at a b lows highs (i + 2) + count_at a b lows highs (i + 3)))
-    + count_from a b lows highs (i + 4)
-count_from_four a b lows highs i l h =
+count_from_two : (a b : ℤ) (lows highs : List ℤ) (i j : ℕ) → j ≡ i + 2 → i + 2 ≤ length lows → i + 2 ≤ length highs
+    → count_from a b lows highs i ≡ (count_at a b lows highs i + count_at a b lows highs (i + 1)) + count_from a b lows highs j
+count_from_two a b lows highs i j e l h =
     let first = count_from_next a b lows highs i (i + 1) (omega arith) (omega arith) (omega arith) in
-    let second = count_from_next a b lows highs (i + 1) (i + 2) (omega arith) (omega arith) (omega arith) in
-    let third = count_from_next a b lows highs (i + 2) (i + 3) (omega arith) (omega arith) (omega arith) in
-    let fourth = count_from_next a b lows highs (i + 3) (i + 4) (omega arith) (omega arith) (omega arith) in
+    let second = count_from_next a b lows highs (i + 1) j (omega arith) (omega arith) (omega arith) in
+    omega (arith, first, second)
+
+pub count_from_eight : (a b : ℤ) (lows highs : List ℤ) (i : ℕ) → i + 8 ≤ length lows → i + 8 ≤ length highs
+    → count_from a b lows highs i
+    ≡ ((count_at a b lows highs i + count_at a b lows highs (i + 1)) + ((count_at a b lows highs (i + 2) + count_at a b lows highs (i + 2 + 1))
+    + ((count_at a b lows highs (i + 4) + count_at a b lows highs (i + 4 + 1)) + (count_at a b lows highs (i + 6) + count_at a b lows highs (i + 6 + 1)))))
+    + count_from a b lows highs (i + 8)
+count_from_eight a b lows highs i l h =
+    let first = count_from_two a b lows highs i (i + 2) (omega arith) (omega arith) (omega arith) in
+    let second = count_from_two a b lows highs (i + 2) (i + 4) (omega arith) (omega arith) (omega arith) in
+    let third = count_from_two a b lows highs (i + 4) (i + 6) (omega arith) (omega arith) (omega arith) in
+    let fourth = count_from_two a b lows highs (i + 6) (i + 8) (omega arith) (omega arith) (omega arith) in
     omega (arith, first, second, third, fourth)
 
 -- one place adds one at most

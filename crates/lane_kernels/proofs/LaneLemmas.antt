@@ -1,7 +1,6 @@
--- Lanes of two comparisons: what their joined mask picks, and how many of four it has.
-use Rattle.std.proofs.Common.{◌≡◌, ◌+◌, ◌*◌, ◌%◌, ◌&&◌, ◌≤◌, ℕ, Bool, true, false, refl, cond, bit_and, arith}
+-- Lanes of two comparisons: what their joined mask picks, and the sum of eight hits.
+use Rattle.std.proofs.Common.{◌≡◌, ◌∙◌, ◌+◌, ◌%◌, ◌&&◌, ◌≤◌, ℕ, Bool, true, false, refl, cond, bit_and, arith}
 use lib.Lanes.{top}
-use lib.Count.{ones}
 
 -- a lane of 64 set bits where the comparison holds
 abbrev pub lane : Bool → ℕ
@@ -21,23 +20,22 @@ pub hit-most : (p : Bool) → hit p ≤ 1
 hit-most true = omega arith
 hit-most false = omega arith
 
--- the set bits of a mask of four lanes
-pub ones-four : (p q r s : Bool) → ones ((hit p + 2 * (hit q + 2 * (hit r + 2 * (hit s + 2 * 0)))) % 18446744073709551616)
-    ≡ hit p + (hit q + (hit r + hit s))
-unfolding ones
-ones-four true true true true = refl
-ones-four true true true false = refl
-ones-four true true false true = refl
-ones-four true true false false = refl
-ones-four true false true true = refl
-ones-four true false true false = refl
-ones-four true false false true = refl
-ones-four true false false false = refl
-ones-four false true true true = refl
-ones-four false true true false = refl
-ones-four false true false true = refl
-ones-four false true false false = refl
-ones-four false false true true = refl
-ones-four false false true false = refl
-ones-four false false false true = refl
-ones-four false false false false = refl
+small_mod : (k l : ℕ) → k ≤ 8 → l ≤ 8 → (k + l) % 18446744073709551616 ≡ k + l
+small_mod k l hk hl = omega arith
+
+-- the sum of two lanes of four hits each
+pub sum_eight : (a b c d e f g h : ℕ) → a ≤ 1 → b ≤ 1 → c ≤ 1 → d ≤ 1 → e ≤ 1 → f ≤ 1 → g ≤ 1 → h ≤ 1
+    → ((0 + ((a + c) % 18446744073709551616 + (e + g) % 18446744073709551616) % 18446744073709551616) % 18446744073709551616
+    + ((b + d) % 18446744073709551616 + (f + h) % 18446744073709551616) % 18446744073709551616) % 18446744073709551616
+    ≡ (a + b) + ((c + d) + ((e + f) + (g + h)))
+sum_eight a b c d e f g h la lb lc ld le lf lg lh =
+    simp (
+      small_mod a c (omega arith) (omega arith),
+      small_mod e g (omega arith) (omega arith),
+      small_mod b d (omega arith) (omega arith),
+      small_mod f h (omega arith) (omega arith),
+      small_mod (a + c) (e + g) (omega arith) (omega arith),
+      small_mod (b + d) (f + h) (omega arith) (omega arith),
+      small_mod 0 ((a + c) + (e + g)) (omega arith) (omega arith),
+    )
+    (small_mod (0 + ((a + c) + (e + g))) ((b + d) + (f + h)) (omega arith) (omega arith) ∙ omega arith)
