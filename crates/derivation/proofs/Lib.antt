@@ -1,0 +1,6 @@
+pub mod NumberLaws
+pub mod ItemLaws
+pub mod RowLaws
+pub mod LineLaws
+pub mod WriteLaws
+pub mod Turns

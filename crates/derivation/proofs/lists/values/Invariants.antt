@@ -1,0 +1,9 @@
+use Rattle.std.proofs.Common.{◌≡◌, ◌-◌, length}
+use Rattle.derivation.specs.Reading.{rows, value_item}
+use Rattle.derivation.proofs.lists.values.Given as goal
+
+abbrev pub invariant-items : goal.invariant-items
+invariant-items l = record {
+  last : l.end ≡ length l.bytes;
+  read : rows value_item (l.end - l.counter) l.found l.rest ≡ rows value_item (length l.bytes) l.initial.found l.bytes;
+}

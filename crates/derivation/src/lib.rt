@@ -1,0 +1,23 @@
+//! The lines of a derivation: the text that says why a program has no answer, no other answer, or no
+//! better one.
+//!
+//! Each line has one spelling: fields parted by one blank, numbers in decimal with no leading zero and
+//! no `+`, lists in the order of a nogood. `read_line` takes exactly the spellings, and `write_line` writes
+//! them. Stands on `symbols`, `literals` and `itoa`.
+#![tactic(auto)]
+
+mod fields;
+mod items;
+mod kinds;
+mod line;
+mod lists;
+mod numbers;
+mod ranges;
+mod read;
+#[cfg(test)]
+mod tests;
+mod write;
+
+pub use line::{Line, LineStop};
+pub use read::read_line;
+pub use write::write_line;
