@@ -4,3 +4,4 @@ pub mod RowLaws
 pub mod LineLaws
 pub mod WriteLaws
 pub mod Turns
+pub mod NogoodLaws

@@ -1,5 +1,7 @@
 // Lines read.
 ghost use Rattle.std.specs.Prelude.{◌≡◌, IfOk, IsTrue, ◌↔◌};
+ghost use Rattle.literals.specs.Nogoods.{IsNogood};
+ghost use Rattle.derivation.specs.Lists.{lits_of};
 ghost use Rattle.derivation.specs.Spelling.{spelling, IsLine};
 ghost use Rattle.derivation.specs.declared.line.Line.{Line as LineValue};
 ghost use Rattle.derivation.specs.Reading.{reading};
@@ -19,6 +21,9 @@ pub fn read_line(alloc: Global, bytes: &[u8]) -> Result<Line, LineStop>
     // What is read is a line with this spelling, and there is no other.
     ensures read { IfOk result (λ line. IsLine line × (bytes.now ≡ spelling line)) }
     ensures only { IfOk result (λ line. (other : LineValue) → IsLine other → bytes.now ≡ spelling other → other ≡ line) }
+
+    // Its literals are sorted, and of two bounds on one side of a variable there is one alone.
+    ensures nogood { IfOk result (λ line. IsNogood (lits_of line)) }
 
     // Bytes that spell a line are read, unless memory runs out.
     ensures bad { result ≡ Err LineStop.BadLine → (line : LineValue) → IsLine line → ¬ (bytes.now ≡ spelling line) }

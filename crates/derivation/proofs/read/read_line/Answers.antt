@@ -2,6 +2,7 @@ use Rattle.std.proofs.Common.{sym, ◌∙◌, ap}
 use Rattle.std.proofs.lemmas.Bool.{iff_false}
 use Rattle.derivation.specs.Spelling.{spelling}
 use Rattle.derivation.proofs.LineLaws.{none_read, only_read, no_line}
+use Rattle.derivation.proofs.NogoodLaws.{line_nogood}
 use Rattle.derivation.proofs.read.read_line.Goals as goal
 
 pub returns-in_default-clause-bad : goal.returns-in_default-clause-bad
@@ -18,3 +19,6 @@ returns-then-not-branch-clause-bad c =
 
 pub returns-clause-only : goal.returns-clause-only
 returns-clause-only c = λ other ok e. only_read c.args.bytes.now c.in-Some.line (sym c.in-Some.is ∙ c.in_ok-line.ensures) other ok e
+
+pub returns-clause-nogood : goal.returns-clause-nogood
+returns-clause-nogood c = line_nogood c.in-Some.line (sym c.if-not-is_line.ensures)
