@@ -125,3 +125,7 @@ only_read bytes found h other ok e = same_some found other (h ∙ ap reading e �
 -- what is read and is no line is the spelling of none
 pub no_line : (bytes : List ℕ) (found : Line) → Some found ≡ reading bytes → false ≡ is_line found → (other : Line) → IsLine other → bytes ≡ spelling other → ⊥
 no_line bytes found h wrong other ok e = false≢true (wrong ∙ ap is_line (sym (only_read bytes found h other ok e)) ∙ ok)
+
+-- two lines of one spelling are one line
+pub one_line : (a b : Line) → IsLine a → IsLine b → spelling a ≡ spelling b → a ≡ b
+one_line a b is_a is_b same = only_read (spelling b) b (sym (line_read b is_b)) a is_a (sym same)

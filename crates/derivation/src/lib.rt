@@ -19,5 +19,5 @@ mod tests;
 mod write;
 
 pub use line::{Line, LineStop};
-pub use read::read_line;
+pub use read::{read_line, spellings_are_apart};
 pub use write::write_line;
