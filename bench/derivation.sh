@@ -25,7 +25,7 @@ use symbols::Listed;
 fn lines(alloc: Global, count: u32) -> Result<Vec<u8>, AllocError> {
     let mut text = Vec::new(alloc);
     for number in 1..count {
-        text.extend_from_slice(format!(in alloc; "s 17 = c17 v{number}<=-1024 v400123>=77\n")?.as_bytes())?;
+        text.extend_from_slice(format!(in alloc; "s 17 = c17 v{number}<=-1024 v2000000>=77\n")?.as_bytes())?;
         text.extend_from_slice(format!(in alloc; "r {number} ~b31 4 c2 77 v12<=3 {number} a5 1207 = a1 ~a44 b{number} c9 v7>=1\n")?.as_bytes())?;
     }
     Ok(text)
