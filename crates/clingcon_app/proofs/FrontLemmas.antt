@@ -1,5 +1,5 @@
 -- Fronts of what is written.
-use Rattle.std.proofs.Common.{◌≡◌, ℕ, ◌+◌, List, ◌++◌, length, take, subst, sym, OnErr}
+use Rattle.std.proofs.Common.{ℕ, ◌+◌, List, ◌++◌, length, take, subst, sym, OnErr}
 use Rattle.std.specs.declared.option.Option.{Option}
 use Rattle.std.specs.declared.result.Result.{Result}
 use Rattle.std.specs.declared.result.Result.TheVariants.{Ok, Err}

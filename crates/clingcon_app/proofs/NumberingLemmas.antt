@@ -1,12 +1,12 @@
 -- What numbering gives: ids in the order of their symbols differ, and each id that occurs has a number that reads as its symbol.
-use Rattle.std.proofs.Common.{◌≡◌, ◌↔◌, ℕ, zero, suc, ◌+◌, ◌-◌, ◌*◌, ◌^◌, ◌<◌, ◌≤◌, length, List, [], ◌∷◌, ◌++◌, map, All, Contains, Bool, true, false, refl, sym, ◌∙◌, ap, subst, arith, pos}
+use Rattle.std.proofs.Common.{◌≡◌, ◌↔◌, ℕ, zero, suc, ◌+◌, ◌-◌, ◌^◌, ◌<◌, ◌≤◌, length, List, [], ◌∷◌, map, All, Contains, refl, sym, ◌∙◌, ap, subst, arith, pos}
 use Rattle.std.specs.Prelude.{slice_index, slice_index_or}
 use Rattle.std.specs.List.{AllByRecursion}
 use Rattle.std.specs.List.Sorted.{IsStrictlySortedBy}
 use Rattle.std.specs.declared.cmp.Ordering.TheVariants.{Less, Equal}
 use Rattle.std.proofs.lemmas.Cmp.{tied_itself}
 use Rattle.std.proofs.lemmas.Bool.Decides.{nat_tests}
-use Rattle.std.proofs.lemmas.List.Elements.{recursion_from_All, All-from_recursion}
+use Rattle.std.proofs.lemmas.List.Elements.{All-from_recursion}
 use Rattle.symbols.specs.Symbol.{Symbol, Number}
 use Rattle.symbols.specs.Order.{symbol_cmp}
 use Rattle.symbols.specs.Table.{symbol_at}
@@ -15,8 +15,6 @@ use Rattle.first_form.specs.declared.statement.DefiniteStatement.{DefiniteStatem
 use Rattle.first_form.specs.Form.{HaveKnown}
 use Rattle.ground_model.specs.declared.rule.GroundRule.{GroundRule}
 use Rattle.ground_model.specs.Members.{IsMember, IsListOf}
-use Rattle.ground_model.specs.Sound.{is_number}
-use Rattle.clingcon_app.specs.Program.{named}
 use Rattle.clingcon_app.specs.Numbering.{ids_of, AreDifferent, IsNumbered, IsNumbering, numbered_rule, HasNumber, AreNumbered}
 use Rattle.clingcon_app.proofs.ListLemmas.{IsApartList, all_append, all_from_members, member_from_all, place_of, members_from, places_differ, length-apart}
 

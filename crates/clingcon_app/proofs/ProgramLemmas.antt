@@ -1,21 +1,20 @@
 -- A numbering as the ground program of its statements.
-use Rattle.std.proofs.Common.{◌≡◌, ◌↔◌, ℕ, zero, suc, ◌+◌, ◌-◌, ◌<◌, ◌≤◌, length, List, [], ◌∷◌, ◌++◌, map, Bool, true, false, ◌&&◌, refl, sym, ◌∙◌, ap, subst, arith}
+use Rattle.std.proofs.Common.{◌≡◌, ℕ, ◌<◌, length, List, [], ◌∷◌, ◌++◌, map, true, false, ◌&&◌, refl, sym, ◌∙◌, ap, subst, arith}
 use Rattle.std.specs.Prelude.{slice_index, nat_lt, ◌==◌, not}
 use Rattle.std.specs.List.{AllByRecursion, list_all}
 use Rattle.std.proofs.lemmas.Bool.Decides.{nat_tests}
 use Rattle.symbols.specs.Symbol.{Symbol}
 use Rattle.symbols.specs.Table.{symbol_at}
 use Rattle.symbols.specs.declared.ends.Ends.{Ends}
-use Rattle.definite_rules.specs.Rule.{DefiniteRule}
 use Rattle.first_form.specs.declared.statement.DefiniteStatement.{DefiniteStatement}
-use Rattle.first_form.specs.Form.{SymbolRule, rule_in, rules_in}
+use Rattle.first_form.specs.Form.{rule_in, rules_in}
 use Rattle.ground_model.specs.declared.rule.BodyLit.TheVariants.{Atom as AtomLiteral}
 use Rattle.ground_model.specs.declared.rule.GroundRule.{GroundRule}
 use Rattle.ground_model.specs.Members.{IsMember, IsListOf}
-use Rattle.ground_model.specs.Sound.{is_sound_objective, are_known, is_number, is_sound_literal, is_sound_rule, are_sound_rules}
+use Rattle.ground_model.specs.Sound.{is_sound_objective, are_known, is_sound_literal, is_sound_rule, are_sound_rules}
 use Rattle.ground_model.specs.Definite.{is_positive, is_definite_rule}
 use Rattle.clingcon_app.specs.Program.{named, named_rule, ground_rule, occurring}
-use Rattle.clingcon_app.specs.Numbering.{ids_of, definite_rule, numbered_body, numbered_rule, HasNumber, AreNumbered}
+use Rattle.clingcon_app.specs.Numbering.{ids_of, definite_rule, numbered_body, numbered_rule, HasNumber}
 use Rattle.clingcon_app.proofs.ListLemmas.{all_front, all_behind, map-append, map-map, member_map, map_member}
 
 -- ids of the table are known

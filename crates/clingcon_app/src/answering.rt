@@ -2,7 +2,7 @@
 ghost use Rattle.std.specs.Prelude.{◌≡◌, ◌≤◌, ◌^◌, ◌++◌, length, IfOk};
 ghost use Rattle.symbols.specs.Table.{IsOnce};
 ghost use Rattle.first_form.specs.Form.{HaveKnown, rules_in};
-ghost use Rattle.clingcon_app.specs.Printed.{PrintsAnswer, PrintsText, IsOtherText, satisfiable};
+ghost use Rattle.clingcon_app.specs.Printed.{HasStatements, PrintsAnswer, PrintsText, IsOtherText, satisfiable};
 
 use crate::grounding::program_of;
 use first_form::{DefiniteStatement, FormStop, read_statements};
@@ -26,23 +26,41 @@ pub(crate) fn answer_block(alloc: Global, text: &[u8]) -> Result<Listed<u8>, Ans
     ensures printed { IfOk result (λ block. PrintsText text.now (block ++ satisfiable)) }
     ensures other { result ≡ Err AnswerStop.OtherForm → IsOtherText text.now }
 {
+    let mut symbols = match SymbolTable::new(alloc) {
+        Ok(symbols) => symbols,
+        Err(Memory) => return Err(AnswerStop::Memory),
+    };
+    let statements = match statements_of(alloc, text, &mut symbols) {
+        Ok(statements) => statements,
+        Err(stop) => return Err(stop),
+    };
+    match block_of(alloc, symbols, statements.items()) {
+        Ok(block) => Ok(block),
+        Err(Memory) => Err(AnswerStop::Memory),
+    }
+}
+
+// The statements of a text of the first form; its tokens are gone when they are answered.
+fn statements_of(
+    alloc: Global,
+    text: &[u8],
+    symbols: &mut SymbolTable,
+) -> Result<Listed<DefiniteStatement>, AnswerStop>
+    requires { length text.now ≤ 2 ^ 24 }
+    ensures read { IfOk result (λ statements. HasStatements text.now (rules_in symbols.new statements)) }
+    ensures known { IfOk result (HaveKnown symbols.new) }
+    ensures once { IsOnce symbols.old → IsOnce symbols.new }
+    ensures other { result ≡ Err AnswerStop.OtherForm → IsOtherText text.now }
+{
     let tokens = match tokens(alloc, text) {
         Ok(tokens) => tokens,
         Err(LexStop::Fault(_)) => return Err(AnswerStop::OtherForm),
         Err(LexStop::Memory) => return Err(AnswerStop::Memory),
     };
-    let mut symbols = match SymbolTable::new(alloc) {
-        Ok(symbols) => symbols,
-        Err(Memory) => return Err(AnswerStop::Memory),
-    };
-    let statements = match read_statements(alloc, text, tokens.items(), &mut symbols) {
-        Ok(statements) => statements,
-        Err(FormStop::OtherForm) => return Err(AnswerStop::OtherForm),
-        Err(FormStop::Memory) => return Err(AnswerStop::Memory),
-    };
-    match block_of(alloc, symbols, statements.items()) {
-        Ok(block) => Ok(block),
-        Err(Memory) => Err(AnswerStop::Memory),
+    match read_statements(alloc, text, tokens.items(), symbols) {
+        Ok(statements) => Ok(statements),
+        Err(FormStop::OtherForm) => Err(AnswerStop::OtherForm),
+        Err(FormStop::Memory) => Err(AnswerStop::Memory),
     }
 }
 

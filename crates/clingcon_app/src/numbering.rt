@@ -99,11 +99,11 @@ fn body_of(alloc: Global, numbers: &[u32], ids: &[SymbolId]) -> Result<Listed<Bo
     requires { All (λ id. id < length numbers.now) ids.now }
     ensures { IfOk result (λ body. body ≡ numbered_body numbers.now ids.now) }
 {
-    let mut body = Listed::new(alloc);
+    let mut body = Vec::with_capacity(alloc, ids.len())?;
     for id in ids {
         body.push(BodyLit::Atom(numbers[id.place()], true))?;
     }
-    Ok(body)
+    Ok(Listed::from_vec(body))
 }
 
 /// So many flags, all true.

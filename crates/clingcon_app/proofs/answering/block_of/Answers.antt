@@ -1,4 +1,3 @@
-use Rattle.std.proofs.Common.{◌≡◌, List, ℕ, [], ◌++◌}
 use Rattle.ground_model.specs.Printed.{block}
 use Rattle.clingcon_app.specs.Printed.{satisfiable}
 use Rattle.clingcon_app.proofs.ProgramLemmas.{printed_one}

@@ -1,4 +1,4 @@
-use Rattle.std.proofs.Common.{◌≡◌, ℕ, ◌<◌, ◌^◌, List, length, map, subst, sym, ◌∙◌, ap}
+use Rattle.std.proofs.Common.{◌≡◌, ℕ, ◌<◌, ◌^◌, List, length, subst, sym, ◌∙◌, ap}
 use Rattle.clingcon_app.specs.Numbering.{IsNumbering}
 use Rattle.clingcon_app.proofs.NumberingLemmas.{lent_known, lent_atoms, lent_different, lent_few, numbered_all, are_numbered}
 use Rattle.clingcon_app.proofs.numbering.numbered.Goals as goal

@@ -1,5 +1,5 @@
-use Rattle.std.proofs.Common.{◌≡◌, List, ℕ, ◌++◌, Err, rules, ap}
-use Rattle.clingcon_app.specs.Printed.{satisfiable, PrintsText, IsOtherText}
+use Rattle.std.proofs.Common.{◌++◌, Err, rules, ap}
+use Rattle.clingcon_app.specs.Printed.{satisfiable, IsOtherText}
 use Rattle.clingcon_app.proofs.OutcomeLemmas.{other_from_long, told_from_read, refused_from, not_built_from, cut_off_refusal, answer_from, answered_from, cut_off_answer}
 use Rattle.clingcon_app.proofs.running.run.Goals as goal
 

@@ -1,4 +1,4 @@
-use Rattle.std.proofs.Common.{◌≡◌, ℕ, List, take, subst, sym}
+use Rattle.std.proofs.Common.{ℕ, List, subst, sym}
 use Rattle.std.specs.declared.option.Option.{Option}
 use Rattle.std.specs.Io.KnownBytes.{Appends}
 use Rattle.clingcon_app.proofs.FrontLemmas.{whole_is_front, at_any_error}
