@@ -4,3 +4,4 @@ pub mod Merges
 pub mod Worlds
 pub mod LitLaws
 pub mod SameLaws
+pub mod KeyLaws

@@ -1,6 +1,14 @@
 // Nogoods: lists of literals that are never all true, and resolution.
 ghost use Rattle.std.specs.Prelude.{◌≡◌, IfOk, IfSome};
 ghost use Rattle.std.specs.List.{All, find};
+ghost use Rattle.std.specs.Cmp.Lexicographic.{pointwise, lists_per, lists_equiv};
+ghost use Rattle.std.specs.Hash as fed;
+ghost use Rattle.std.specs.Hash.{items_Alike};
+ghost use Rattle.literals.specs.contracts.lit.LitPartialEq.TheImpl.{ghosts as of_lit};
+ghost use Rattle.literals.specs.contracts.lit.LitPartialEq.TheImpl.Laws.{laws-law as lits_agree};
+ghost use Rattle.literals.specs.contracts.lit.LitEq.TheImpl.Laws.{laws-law as lits_equal};
+ghost use Rattle.literals.specs.contracts.lit.LitHash.TheImpl.{ghosts as hashed_lit};
+ghost use Rattle.literals.specs.contracts.lit.LitHash.TheImpl.Laws.{respects_eq-law as hashes_agree};
 ghost use Rattle.literals.specs.Truths.{Truths, all_true, Meets};
 ghost use Rattle.literals.specs.Lits.{IsLit};
 ghost use Rattle.literals.specs.Nogoods.{IsNogood, canonical, has_lit, answers, resolvent};
@@ -10,6 +18,7 @@ use crate::merge::{merge, sorted};
 use crate::order::same;
 use smallvec::SmallVec;
 use std::alloc::Global;
+use std::hash::{Hash, Hasher};
 use std::marker::Model;
 use symbols::Memory;
 
@@ -33,6 +42,30 @@ impl Model for Nogood {
     ghost view = { λ n. n.items.items };
 
     ghost invariant = { λ n. IsNogood n.items.items };
+}
+
+impl PartialEq for Nogood {
+    ghost eq = { λ x y. pointwise of_lit.eq x y };
+
+    ghost laws = { lists_per lits_agree };
+
+    fn eq(&self, other: &Self) -> bool {
+        self.items == other.items
+    }
+}
+
+impl Eq for Nogood {
+    ghost laws = { lists_equiv lits_equal };
+}
+
+impl Hash for Nogood {
+    ghost hash_input = { λ x. fed.slice hashed_lit.hash_input x };
+
+    ghost respects_eq = { (items_Alike (record { fed = hashes_agree })).fed };
+
+    fn hash<H: Hasher>(&self, state: &mut H) {
+        self.items.hash(state);
+    }
 }
 
 // Whether the literal is among these.

@@ -1,5 +1,6 @@
 pub mod Implied
 pub mod Assignment
 pub mod Growth
+pub mod Forced
 pub mod Cells
 pub mod Kept

@@ -66,6 +66,15 @@ impl Trail {
         })
     }
 
+    /// The shape that the trail is over.
+    #[inline]
+    pub fn shape(&self) -> Shape
+        ensures value { result ≡ self.now.shape }
+        ensures assignment { IsAssignment self.now }
+    {
+        self.shape
+    }
+
     /// The open level.
     #[inline]
     pub fn level(&self) -> usize
