@@ -3,6 +3,7 @@ pub mod MemberLemmas
 pub mod Ranks
 pub mod Alike
 pub mod WayLemmas
+pub mod LastRank
 pub mod ReductLemmas
 pub mod Ascending
 pub mod DefiniteLaw
@@ -15,6 +16,9 @@ pub mod PrintLemmas
 pub mod AnswerLemmas
 pub mod SameProgram
 pub mod SpanLemmas
+pub mod DifferLemmas
+pub mod PairLemmas
+pub mod SweepLemmas
 pub mod DutyLemmas
 pub mod MarkLemmas
 pub mod CheckLemmas

@@ -17,8 +17,8 @@ use symbols::{Ends, Memory};
 /// Whether an answer is a constraint stable model of a program.
 ///
 /// The least model of the reduct (Gelfond and Lifschitz) is computed by counts of unmet atoms (Dowling and
-/// Gallier), and sums are plain sums: it takes time linear in the ways of the rules, and quadratic in the tuples
-/// of one `&distinct` or `&disjoint`.
+/// Gallier), and sums are plain sums: it takes time linear in the ways in which rules can give atoms, and
+/// for the tuples of a `&disjoint` that of sorting them.
 pub fn is_answer(alloc: Global, program: &GroundProgram, answer: &Answer) -> Result<bool, Memory>
     ensures { IfOk result (λ yes. IsTrue yes ↔ IsAnswerOf program.now answer.now) }
 {

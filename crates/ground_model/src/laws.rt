@@ -6,7 +6,8 @@ pub fn ranks_do_not_matter()
     ensures { RanksLaw }
 {}
 
-/// A stable model has the atoms of the least set that is closed under its reduct.
+/// A set is a stable model exactly where each head holds whose body is true, and the set is the least that is
+/// closed under its reduct (Gelfond and Lifschitz).
 pub fn stable_models_are_least()
     ensures { LeastLaw }
 {}
@@ -16,7 +17,7 @@ pub fn reducts_determine_models()
     ensures { DeterminedLaw }
 {}
 
-/// A program of facts and definite rules has no two constraint stable models.
+/// A program of facts and definite rules has exactly one constraint stable model.
 pub fn definite_programs_have_one_model()
     ensures { DefiniteLaw }
 {}

@@ -1,18 +1,18 @@
 // Whether theory heads hold.
-ghost use Rattle.std.specs.Prelude.{◌≡◌, ◌+ℤ◌, int_lt, not, [], length, map, IfOk};
-ghost use Rattle.std.specs.List.{AllByRecursion, list_all};
-ghost use Rattle.std.specs.Ordering.{int_eq};
+ghost use Rattle.std.specs.Prelude.{◌≡◌, ◌+ℤ◌, int_lt, pos, cond, [], length, map, IfOk};
+ghost use Rattle.std.specs.List.{AllByRecursion};
 ghost use Rattle.ground_model.specs.Answers.{IsNumbered, value_at};
 ghost use Rattle.ground_model.specs.Duties.{theory_holds as theory_test};
 ghost use Rattle.ground_model.specs.Intervals.{lies_in};
 ghost use Rattle.ground_model.specs.Sizes.{IsModest, AreSizedPlaces, IsReadableTheory};
-ghost use Rattle.ground_model.specs.Spans.{differ_by_value, are_apart_spans, span_of, IsSizedSpan};
+ghost use Rattle.ground_model.specs.Spans.{differ_by_value, are_apart_spans, span_of, IsSizedSpan, AreAscending};
 ghost use Rattle.ground_model.specs.Truth.{all_pairs, share as share_test};
 
 use crate::linear::Place;
 use crate::rule::TheoryHead;
 use crate::value::{linear_value, relation_holds};
 use std::alloc::Global;
+use std::collections::HashSet;
 use symbols::Memory;
 
 // Whether a theory head holds.
@@ -34,11 +34,11 @@ pub(crate) fn theory_holds(
         }
         TheoryHead::Distinct(places) => {
             let spans = spans_of(alloc, places.items(), values)?;
-            Ok(all_differ(&spans))
+            all_differ(alloc, &spans)
         }
         TheoryHead::Disjoint(places) => {
             let spans = spans_of(alloc, places.items(), values)?;
-            Ok(none_overlap(&spans))
+            Ok(none_overlap(spans))
         }
     }
 }
@@ -67,23 +67,21 @@ fn spans_of(alloc: Global, places: &[Place], values: &[i32]) -> Result<Vec<(i128
     Ok(spans)
 }
 
-// Whether a start differs from that of each span.
-fn differs_from_all(start: i128, spans: &[(i128, i32)]) -> bool
-    ensures { result ≡ list_all (λ span. not (int_eq start span.0)) spans.now }
+// Whether all starts differ, each looked up among the later ones.
+fn all_differ(alloc: Global, spans: &[(i128, i32)]) -> Result<bool, Memory>
+    requires { AllByRecursion IsSizedSpan spans.now }
+    ensures { IfOk result (λ yes. yes ≡ all_pairs differ_by_value spans.now) }
 {
-    spans.iter().all(|(other, _)| start != *other)
-}
-
-// Whether all starts differ.
-fn all_differ(spans: &[(i128, i32)]) -> bool
-    ensures { result ≡ all_pairs differ_by_value spans.now }
-{
-    for at in 0..spans.len() {
-        if !differs_from_all(spans[at].0, &spans[at + 1..]) {
-            return false;
+    let mut later = HashSet::new(alloc);
+    let mut at = spans.len();
+    while at > 0 {
+        at -= 1;
+        let start = spans[at].0;
+        if !later.insert(start)? {
+            return Ok(false);
         }
     }
-    true
+    Ok(true)
 }
 
 // Whether a span ends above a number.
@@ -103,29 +101,35 @@ fn share(one: (i128, i32), other: (i128, i32)) -> bool
     one.1 > 0 && other.1 > 0 && ends_above(other, one.0) && ends_above(one, other.0)
 }
 
-// Whether a span shares no integer with any of the others.
-fn overlaps_none(span: (i128, i32), others: &[(i128, i32)]) -> bool
-    requires span { IsSizedSpan span }
-    requires others { AllByRecursion IsSizedSpan others.now }
-    ensures { result ≡ list_all (are_apart_spans span) others.now }
+// Whether no two spans share an integer, found in the order of their starts.
+fn none_overlap(spans: Vec<(i128, i32)>) -> bool
+    requires { AllByRecursion IsSizedSpan spans.items }
+    ensures { result ≡ all_pairs are_apart_spans spans.items }
 {
-    for other in others {
-        if share(span, *other) {
+    let mut sorted = spans;
+    sorted.sort_unstable();
+    follow_each_other(&sorted)
+}
+
+// Whether no two spans share an integer, where none starts before an earlier one.
+fn follow_each_other(spans: &[(i128, i32)]) -> bool
+    requires sized { AllByRecursion IsSizedSpan spans.now }
+    requires ascending { AreAscending spans.now }
+    ensures { result ≡ all_pairs are_apart_spans spans.now }
+{
+    let mut last = 0;
+    for at in 1..spans.len() {
+        if share(spans[last], spans[at]) {
             return false;
         }
+        last = last_with_length(spans[at], last, at);
     }
     true
 }
 
-// Whether no two spans share an integer.
-fn none_overlap(spans: &[(i128, i32)]) -> bool
-    requires { AllByRecursion IsSizedSpan spans.now }
-    ensures { result ≡ all_pairs are_apart_spans spans.now }
+// The place of the last span that occupies something, given that of the last before it.
+fn last_with_length(span: (i128, i32), last: usize, at: usize) -> usize
+    ensures { result ≡ cond (int_lt (pos 0) span.1) at last }
 {
-    for at in 0..spans.len() {
-        if !overlaps_none(spans[at], &spans[at + 1..]) {
-            return false;
-        }
-    }
-    true
+    if span.1 > 0 { at } else { last }
 }
