@@ -1,0 +1,26 @@
+//! Ground programs from their parts.
+//!
+//! A `GroundProgram` keeps an invariant: numbers and symbols of its own, different tuples, sums that fit.
+//! `GroundParts` are its fields without it, and `checked` makes the program of parts exactly where they meet
+//! the invariant, in time linear in them. Stands on `ground_model`.
+#![tactic(auto)]
+
+mod different;
+#[cfg(test)]
+mod fixtures;
+mod linear;
+mod numbers;
+mod objective;
+mod parts;
+mod places;
+mod relation;
+mod rules;
+mod scratch;
+mod span;
+#[cfg(test)]
+mod tests;
+#[cfg(test)]
+mod tests_printed;
+mod totals;
+
+pub use parts::GroundParts;
