@@ -1,3 +1,5 @@
 pub mod Checked
 pub mod Holding
 pub mod Turns
+pub mod TreeRules
+mod TreeExamples

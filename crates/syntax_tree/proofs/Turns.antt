@@ -15,10 +15,11 @@ use Rattle.syntax_tree.specs.declared.binding.Value.{Value}
 use Rattle.syntax_tree.specs.declared.worth.Worth.{Worth}
 use Rattle.syntax_tree.specs.declared.worth.Places.{Places}
 use Rattle.syntax_tree.specs.declared.worth.Places.TheVariants as places
-use Rattle.syntax_tree.specs.Tree.{is_term, is_part, term_rules, part_rules, are_parts, begins_sum, adds, begins_product, multiplies}
+use Rattle.syntax_tree.specs.Tree.{is_name, is_term, is_part, are_parts, begins_sum, adds, begins_product, multiplies}
 use Rattle.syntax_tree.specs.Outcome.{Outcome, IsSymbol, IsOver, IsUndefined, IsKnown, bound_in}
 use Rattle.syntax_tree.specs.Value.{AreSymbols, HasOver, HasUndefined, with_argument, shallow, applied_to, joined, variable, value_of, part_value, value_step, part_step}
 use Rattle.syntax_tree.specs.Worth.{outcome, outcomes, IsOptionHeld, gathered, AreHeld}
+use Rattle.syntax_tree.proofs.TreeRules.{function_rules, tuple_rules, sum_rules, product_rules}
 use Rattle.syntax_tree.proofs.Holding.{gathered-front, outcomes-front, bound-front}
 
 pub fold_more : {A B S : Type 0} (f : S → B → S) (z : S) (g : A → B) (xs : List A) (i : ℕ) (x : A) → x ≡ slice_index_or xs i x → i < length xs
@@ -92,50 +93,33 @@ parts_of first further (x ∷ xs) h =
     first_then (λ y. IsTrue (is_part y).1) x xs (right (first (is_part x).0) (is_part x).1 (left (first (is_part x).0 && (is_part x).1) _ h))
     (further_of further xs (right (first (is_part x).0 && (is_part x).1) _ h))
 
--- the rules of each kind of term
-at_function : (name : List ℕ) (args : List Term) → is_term (t.Function name args) ≡ (is_utf8 name && not (length name == 0) && list_all (λ arg. arg) (map is_term args))
-unfolding roll-Term denote.Hole.Carrier.roll
-at_function name args = fold-roll-Term Bool (Op × Bool) term_rules part_rules (Term-F.Function name args)
-
-at_tuple : (args : List Term) → is_term (t.Tuple args) ≡ list_all (λ arg. arg) (map is_term args)
-unfolding roll-Term denote.Hole.Carrier.roll
-at_tuple args = fold-roll-Term Bool (Op × Bool) term_rules part_rules (Term-F.Tuple args)
-
-at_sum : (parts : List Part) → is_term (t.Sum parts) ≡ are_parts begins_sum adds (map is_part parts)
-unfolding roll-Term denote.Hole.Carrier.roll
-at_sum parts = fold-roll-Term Bool (Op × Bool) term_rules part_rules (Term-F.Sum parts)
-
-at_product : (parts : List Part) → is_term (t.Product parts) ≡ are_parts begins_product multiplies (map is_part parts)
-unfolding roll-Term denote.Hole.Carrier.roll
-at_product parts = fold-roll-Term Bool (Op × Bool) term_rules part_rules (Term-F.Product parts)
-
 pub at_variable : (bound : List Outcome) (n : ℕ) → value_of bound (t.Variable n) ≡ variable bound n
 unfolding roll-Term denote.Hole.Carrier.roll
 at_variable bound n = fold-roll-Term Outcome (Op × Outcome) (value_step bound) part_step (Term-F.Variable n)
 
 pub function_name : (term : Term) (name bytes : List ℕ) (args : List Term) → IsTrue (is_term term) → term ≡ t.Function name args → bytes ≡ name → IsTrue (is_utf8 bytes)
 function_name term name bytes args h is same =
-    let rules = subst (λ x. IsTrue x) (ap is_term is ∙ at_function name args) h in
-    subst (λ x. IsTrue (is_utf8 x)) (sym same) (left (is_utf8 name) (not (length name == 0)) (left (is_utf8 name && not (length name == 0)) _ rules))
+    let rules = subst (λ x. IsTrue x) (ap is_term is ∙ function_rules name args) h in
+    subst (λ x. IsTrue (is_utf8 x)) (sym same) (right (not (length name == 0)) (is_utf8 name) (left (is_name name) _ rules))
 
 pub function_args : (term : Term) (name : List ℕ) (args slice : List Term) → IsTrue (is_term term) → term ≡ t.Function name args → slice ≡ args → All (λ x. IsTrue (is_term x)) slice
 function_args term name args slice h is same =
-    let rules = subst (λ x. IsTrue x) (ap is_term is ∙ at_function name args) h in
-    subst (All (λ x. IsTrue (is_term x))) (sym same) (each_of is_term args (right (is_utf8 name && not (length name == 0)) _ rules))
+    let rules = subst (λ x. IsTrue x) (ap is_term is ∙ function_rules name args) h in
+    subst (All (λ x. IsTrue (is_term x))) (sym same) (each_of is_term args (right (is_name name) _ rules))
 
 pub tuple_args : (term : Term) (args slice : List Term) → IsTrue (is_term term) → term ≡ t.Tuple args → slice ≡ args → All (λ x. IsTrue (is_term x)) slice
 tuple_args term args slice h is same =
-    let rules = subst (λ x. IsTrue x) (ap is_term is ∙ at_tuple args) h in
+    let rules = subst (λ x. IsTrue x) (ap is_term is ∙ tuple_rules args) h in
     subst (All (λ x. IsTrue (is_term x))) (sym same) (each_of is_term args rules)
 
 pub sum_parts : (term : Term) (parts slice : List Part) → IsTrue (is_term term) → term ≡ t.Sum parts → slice ≡ parts → All (λ x. IsTrue (is_part x).1) slice
 sum_parts term parts slice h is same =
-    let rules = subst (λ x. IsTrue x) (ap is_term is ∙ at_sum parts) h in
+    let rules = subst (λ x. IsTrue x) (ap is_term is ∙ sum_rules parts) h in
     subst (All (λ x. IsTrue (is_part x).1)) (sym same) (parts_of begins_sum adds parts rules)
 
 pub product_parts : (term : Term) (parts slice : List Part) → IsTrue (is_term term) → term ≡ t.Product parts → slice ≡ parts → All (λ x. IsTrue (is_part x).1) slice
 product_parts term parts slice h is same =
-    let rules = subst (λ x. IsTrue x) (ap is_term is ∙ at_product parts) h in
+    let rules = subst (λ x. IsTrue x) (ap is_term is ∙ product_rules parts) h in
     subst (All (λ x. IsTrue (is_part x).1)) (sym same) (parts_of begins_product multiplies parts rules)
 
 -- one argument more

@@ -1,4 +1,6 @@
 pub mod Tree
+pub mod Literals
+pub mod Statements
 pub mod Outcome
 pub mod Arithmetic
 pub mod Value

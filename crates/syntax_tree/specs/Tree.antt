@@ -1,6 +1,6 @@
 -- The rules on terms: names and strings are UTF-8, a function's name is not empty, a sum and a product
 -- have at least one part, and the signs of the parts are those of a sum or of a product.
-use Rattle.std.specs.Prelude.{Bool, true, false, not, ◌&&◌, ◌==◌, List, [], ◌∷◌, length}
+use Rattle.std.specs.Prelude.{ℕ, Bool, true, false, not, ◌&&◌, ◌==◌, List, [], ◌∷◌, length}
 use Rattle.std.specs.List.{list_all}
 use Rattle.std.specs.Str.{is_utf8}
 use Rattle.syntax_tree.specs.declared.term.Op.{Op}
@@ -45,13 +45,17 @@ abbrev pub are_parts : (Op → Bool) → (Op → Bool) → List (Op × Bool) →
 are_parts first further [] = false
 are_parts first further (part ∷ parts) = first part.0 && part.1 && list_all (λ p. further p.0 && p.1) parts
 
+-- a name is not empty, and UTF-8
+abbrev pub is_name : List ℕ → Bool
+is_name text = not (length text == 0) && is_utf8 text
+
 -- the rules at one layer of a term, where those of its parts are judged
 abbrev pub term_rules : Term-F Bool (Op × Bool) → Bool
 term_rules (Term-F.Number n) = true
 term_rules (Term-F.Text text) = is_utf8 text
 term_rules (Term-F.Variable n) = true
 term_rules Term-F.Anonymous = true
-term_rules (Term-F.Function name args) = is_utf8 name && not (length name == 0) && list_all (λ arg. arg) args
+term_rules (Term-F.Function name args) = is_name name && list_all (λ arg. arg) args
 term_rules (Term-F.Tuple args) = list_all (λ arg. arg) args
 term_rules (Term-F.Sum parts) = are_parts begins_sum adds parts
 term_rules (Term-F.Product parts) = are_parts begins_product multiplies parts

@@ -9,9 +9,13 @@ mod amount;
 mod binding;
 mod evaluation;
 mod literal;
+#[cfg(test)]
+mod made_terms;
 mod rule;
 mod statement;
 mod term;
+#[cfg(test)]
+mod tests;
 mod worth;
 
 pub use binding::{Binding, Value};

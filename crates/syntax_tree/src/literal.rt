@@ -25,7 +25,8 @@ pub struct Guard {
     pub right: Term,
 }
 
-/// A literal; with `true` it stands as it is, with `false` behind `not`.
+/// A literal; with `true` it stands as it is, with `false` behind `not`. `is_literal` of
+/// `specs/Literals.antt` has the rules on literals.
 #[cycle(literal)]
 #[derive(Drop)]
 pub enum Literal {

@@ -34,7 +34,7 @@ pub struct Name {
     pub text: Listed<u8>,
 }
 
-/// A rule.
+/// A rule. `is_rule` of `specs/Statements.antt` has the rules on rules.
 #[derive(Drop)]
 pub struct Rule {
     pub head: Head,

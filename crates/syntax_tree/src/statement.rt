@@ -3,7 +3,7 @@ use crate::rule::Rule;
 use crate::term::Term;
 use symbols::Listed;
 
-/// A statement.
+/// A statement. `is_statement` of `specs/Statements.antt` says which of them are trees of a text.
 #[derive(Drop)]
 pub enum Statement {
     Rule(Rule),
@@ -14,7 +14,7 @@ pub enum Statement {
     Show(Listed<u8>, u32),
 }
 
-/// The statements of all texts, in order.
+/// The statements of all texts, in order, as `is_program` of `specs/Statements.antt` has them.
 #[derive(Drop)]
 pub struct Program {
     pub statements: Listed<Statement>,

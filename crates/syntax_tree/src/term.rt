@@ -12,7 +12,8 @@ pub enum Op {
     Remainder,
 }
 
-/// A term. `IsTerm` of `specs/Tree.antt` says which of them are trees of a text.
+/// A term. `is_term` of `specs/Tree.antt` says which of them are trees of a text: each call that takes or
+/// gives a term asks or promises it.
 #[cycle(term)]
 #[derive(Drop)]
 pub enum Term {
