@@ -99,11 +99,23 @@ pub(crate) fn values<'a>(
     Ok(rest)
 }
 
+// How many blanks stand here.
+fn blanks(bytes: &[u8]) -> usize {
+    let mut count: usize = 0;
+    for byte in bytes {
+        if *byte == b' ' {
+            count = count.wrapping_add(1);
+        }
+    }
+    count
+}
+
 // The literals at the end of a line, from the blank before `=` on.
 pub(crate) fn last_lits(alloc: Global, bytes: &[u8]) -> Result<Listed<Lit>, Memory>
     ensures { IfOk result (λ found. found ≡ lits_at bytes.now) }
 {
-    let mut found = Listed::new(alloc);
-    lits(skip(bytes, 2), &mut found)?;
+    let rest = skip(bytes, 2);
+    let mut found = Listed::from_vec(Vec::with_capacity(alloc, blanks(rest))?);
+    lits(rest, &mut found)?;
     Ok(found)
 }

@@ -2,8 +2,11 @@
 ghost use Rattle.std.specs.Prelude.{◌≡◌, ◌^◌, drop, slice_index, option_map, nat_le, pos, neg_ℤ, Some, None, if◌then◌else◌};
 ghost use Rattle.derivation.specs.Reading.{digits_from, number_at, small_at, wide_at, integer_at, value_at, window_end_at};
 
-// The tenth part of 2^127: a digit behind a number up to this one still fits.
+// The tenth part of 2^127: a digit behind a number up to this one still fits 128 bits.
 const TENTH: u128 = 17_014_118_346_046_923_173_168_730_371_588_410_572;
+
+// A digit behind a number below this one fits 64 bits.
+const SHORT: u64 = 1_844_674_407_370_955_161;
 
 // The byte at a place, 0 behind the last.
 #[inline]
@@ -42,7 +45,28 @@ pub(crate) fn number(bytes: &[u8]) -> Option<(u128, &[u8])>
 fn digits(bytes: &[u8]) -> Option<(u128, &[u8])>
     ensures { option_map (λ x. (x.0, x.1.now)) result ≡ digits_from 0 bytes.now }
 {
-    let mut number: u128 = 0;
+    let mut number: u64 = 0;
+    let mut place = 0;
+    'digits: while place < bytes.len() {
+        let byte = bytes[place];
+        if !byte.is_ascii_digit() {
+            return Some((u128::from(number), &bytes[place..]));
+        }
+        if number >= SHORT {
+            return more_digits(u128::from(number), &bytes[place..]);
+        }
+        number = number * 10 + u64::from(byte - b'0');
+        place += 1;
+    }
+    Some((u128::from(number), &bytes[place..]))
+}
+
+// The number that the digits here write behind those of a number, if any, and the bytes behind it.
+#[tactic(auto, unfolding(crate::specs::Reading::digits_from))]
+fn more_digits(front: u128, bytes: &[u8]) -> Option<(u128, &[u8])>
+    ensures { option_map (λ x. (x.0, x.1.now)) result ≡ digits_from front bytes.now }
+{
+    let mut number = front;
     let mut place = 0;
     'digits: while place < bytes.len() {
         let byte = bytes[place];

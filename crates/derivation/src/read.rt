@@ -49,6 +49,6 @@ pub fn spellings_are_apart()
 fn is_spelling(alloc: Global, line: &Line, bytes: &[u8]) -> Result<bool, Memory>
     ensures { IfOk result (λ same. IsTrue same ↔ (bytes.now ≡ spelling line.now)) }
 {
-    let text = spelled(alloc, line)?;
+    let text = spelled(alloc, line, bytes.len())?;
     Ok(bytes == text.items())
 }

@@ -13,21 +13,24 @@ use literals::Lit;
 use std::alloc::Global;
 use symbols::{Listed, Memory};
 
+// The bytes of most lines.
+const USUAL: usize = 120;
+
 /// Appends the one spelling of a line and a line feed, or leaves the bytes as they were.
 pub fn write_line(alloc: Global, line: &Line, out: &mut Listed<u8>) -> Result<(), Memory>
     ensures ok { OnOk result (out.new ≡ out.old ++ (spelling line.now ++ codes "\n")) }
     ensures err { OnErr result (out.new ≡ out.old) }
 {
-    let mut text = spelled(alloc, line)?;
+    let mut text = spelled(alloc, line, USUAL)?;
     text.push(b'\n')?;
     out.append(text.items())
 }
 
-// The spelling of a line.
-pub(crate) fn spelled(alloc: Global, line: &Line) -> Result<Listed<u8>, Memory>
+// The spelling of a line, in a list with room for so many bytes at first.
+pub(crate) fn spelled(alloc: Global, line: &Line, room: usize) -> Result<Listed<u8>, Memory>
     ensures { IfOk result (λ text. text ≡ spelling line.now) }
 {
-    let mut text = Listed::new(alloc);
+    let mut text = Listed::from_vec(Vec::with_capacity(alloc, room)?);
     text.push(letter(line))?;
     write_fields(line, &mut text)?;
     Ok(text)
