@@ -1,0 +1,14 @@
+pub mod Times
+pub mod ListLemmas
+pub mod ContentLemmas
+pub mod SumLemmas
+pub mod BodyLemmas
+pub mod CountLemmas
+pub mod DemandLemmas
+pub mod TruthLemmas
+pub mod BoundLemmas
+pub mod PackingLemmas
+pub mod OverLemmas
+pub mod StepLemmas
+pub mod WorldLemmas
+pub mod Examples
