@@ -1,0 +1,5 @@
+pub mod Inputs
+pub mod Loops
+pub mod Tight
+pub mod Laws
+pub mod Parts
