@@ -1,0 +1,6 @@
+pub mod Meaning
+pub mod Standing
+pub mod Shown
+pub mod Quiet
+pub mod Several
+pub mod Turns

@@ -1,0 +1,20 @@
+-- Entries that valid reasons show, and conflicts.
+use Rattle.std.specs.Prelude.{◌≡◌, Bool, IsTrue}
+use Rattle.literals.specs.declared.reason.Reason.{Reason}
+use Rattle.trail.specs.declared.shape.Shape.{Shape}
+use Rattle.trail.specs.declared.entry.Entry.{Entry}
+use Rattle.trail.specs.declared.entry.Why.TheVariants.{Shown}
+use Rattle.trail.specs.Assignment.{Assignment}
+use Rattle.trail.specs.Forced.{AllTrueOn, Forces}
+
+-- the entry has a valid reason, and that forces its literal on the trail before it
+pub record IsShown (valid : Shape → Reason → Bool) (t : Assignment) (e : Entry) : Type 0 where
+  pub reason : Reason
+  pub why : e.why ≡ Shown reason
+  pub is_valid : IsTrue (valid t.shape reason)
+  pub forces : Forces t reason.nogood e.lit
+
+-- the reason is valid, and all of its literals are true on the trail
+pub record IsConflict (valid : Shape → Reason → Bool) (t : Assignment) (r : Reason) : Type 0 where
+  pub is_valid : IsTrue (valid t.shape r)
+  pub all_true : AllTrueOn t r.nogood
