@@ -1,0 +1,46 @@
+use Rattle.std.proofs.Common.{rules, arith, ◌≡◌, ◌<◌, ◌+◌, ◌+ℤ◌, ◌<ℤ◌, pos, subst, sym, ◌∙◌, ap, FitsSigned, ℤ, ℕ, length}
+use Rattle.std.specs.Int.{w128}
+use Rattle.std.proofs.lemmas.Int.{ints, to_z-of_z}
+use Rattle.literals.specs.declared.lit.Lit.TheVariants.{Constraint}
+use Rattle.trail.specs.Assignment.{Assignment}
+use Rattle.trail.proofs.GrowthLaws.{grows_same, grows_length}
+use Rattle.propagator_core.specs.Shown.{IsShown}
+use Rattle.propagator_core.specs.Quiet.{IsQuiet}
+use Rattle.sum_propagator.specs.Sums.{valid_sum, sum_meaning, bounds_on}
+use Rattle.sum_propagator.specs.Sides.{limit_of, side_sum}
+use Rattle.sum_propagator.specs.Reasons.{Explains}
+use Rattle.sum_propagator.proofs.Settling.{conflict_here, quiet_here, above_here, sum_is, slack_is}
+use Rattle.sum_propagator.proofs.sum_propagator.decided.Goals as goal
+
+pub returns-then-total-limit-clause-answer : goal.returns-then-total-limit-clause-answer
+returns-then-total-limit-clause-answer c =
+    let fm : FitsSigned w128 c.args.sum.now.most = search rules in
+    let ft : FitsSigned w128 c.args.total = search rules in
+    let fl : FitsSigned w128 c.limit-limit.result = search rules in
+    let e = simp to_z-of_z at c.limit-limit.ensures.value in
+    let h : c.limit-limit.result <ℤ c.args.total = (let g = c.if-total-limit.true in grind (arith, ints, to_z-of_z)) in
+    conflict_here c.args.trail.now c.args.sum.now.number c.args.sum.now.items c.args.sum.now.most c.args.side c.in_ok-reason.reason c.requires.on
+    (above_here (limit_of c.args.side c.args.sum.now.most) c.limit-limit.result c.args.total (side_sum c.args.side (bounds_on c.args.trail.now) c.args.sum.now.items) e c.requires.total h)
+    (subst (λ (n : ℕ). Explains c.args.trail.now c.args.sum.now.number c.args.sum.now.items c.args.side n (Constraint c.args.sum.now.number c.args.side) c.in_ok-reason.reason) c.len.ensures c.in_ok-reason.ensures)
+
+pub returns-then-length-before-clause-answer : goal.returns-then-length-before-clause-answer
+returns-then-length-before-clause-answer c =
+    let fm : FitsSigned w128 c.args.sum.now.most = search rules in
+    let ft : FitsSigned w128 c.args.total = search rules in
+    let fl : FitsSigned w128 c.limit-limit.result = search rules in
+    let e = simp to_z-of_z at c.limit-limit.ensures.value in
+    let h : (c.args.total +ℤ pos c.slack_of.result) ≡ c.limit-limit.result = (let w = simp to_z-of_z at c.slack_of.ensures in w) in
+    let length_is : length c.press.new.trail.entries ≡ length c.args.trail.now.entries = sym c.length.ensures.value ∙ c.if-length-before.true ∙ c.length-before.ensures.value in
+    let same : c.press.new.trail ≡ c.args.trail.now = grows_same (IsShown (valid_sum c.args.sum.now.number c.args.sum.now.items c.args.sum.now.most)) c.args.trail.now c.press.new.trail c.press.ensures.grows length_is in
+    subst (λ (t : Assignment). IsQuiet (sum_meaning c.args.sum.now.number c.args.sum.now.items c.args.sum.now.most) t) (sym same)
+    (quiet_here c.args.trail.now c.args.sum.now.number c.args.sum.now.items c.args.sum.now.most c.args.side c.slack_of.result c.requires.assignment c.args.sum.now.are_items c.requires.fits c.requires.on
+    (sum_is (limit_of c.args.side c.args.sum.now.most) c.limit-limit.result c.args.total (side_sum c.args.side (bounds_on c.args.trail.now) c.args.sum.now.items) c.slack_of.result e c.requires.total h)
+    (c.in_ok-press.ensures.rest same))
+
+pub returns-else-length-before-clause-answer : goal.returns-else-length-before-clause-answer
+returns-else-length-before-clause-answer c =
+    let more = grows_length (IsShown (valid_sum c.args.sum.now.number c.args.sum.now.items c.args.sum.now.most)) c.args.trail.now c.press.new.trail c.press.ensures.grows in
+    longer (length c.args.trail.now.entries) (length c.press.new.trail.entries) (length c.press.ensures.grows.more) c.length.result c.length-before.result more c.length.ensures.value c.length-before.ensures.value c.if-length-before.false
+  where
+    longer : (a b m x y : ℕ) → b ≡ a + m → x ≡ b → y ≡ a → (x ≡ y → ⊥) → a < b
+    longer a b m x y e f g n = grind arith

@@ -1,0 +1,100 @@
+-- What a propagator of a sum stands for.
+use Rattle.std.specs.Prelude.{ℕ, ◌==◌, Bool, true, false, not, ◌&&◌, ◌||◌, ℤ, int_le, int_lt, List, [], ◌∷◌, Option, None, Some}
+use Rattle.std.specs.List.{list_all, list_any}
+use Rattle.symbols.specs.declared.ends.Ends.{Ends}
+use Rattle.literals.specs.declared.lit.Lit.{Lit}
+use Rattle.literals.specs.declared.lit.Lit.TheVariants as l
+use Rattle.literals.specs.declared.reason.Step.{Step}
+use Rattle.literals.specs.declared.reason.Step.TheVariants.{Sum}
+use Rattle.literals.specs.declared.reason.Reason.{Reason}
+use Rattle.linear_normal.specs.declared.constraint.Item.{Item}
+use Rattle.linear_normal.specs.declared.constraint.Item.TheVariants.{Value, Truth}
+use Rattle.linear_normal.specs.declared.constraint.Constraint.TheVariants as c
+use Rattle.linear_normal.specs.Bounds.{Bounds, bounds_named, least_sum, greatest_sum}
+use Rattle.linear_normal.specs.Steps.{is_one_of, is_sum}
+use Rattle.trail.specs.declared.shape.Shape.{Shape}
+use Rattle.trail.specs.declared.entry.Entry.{Entry}
+use Rattle.trail.specs.Assignment.{Assignment, lits_of, is_true_on}
+use Rattle.propagator_core.specs.Meaning.{Meaning}
+use Rattle.sum_propagator.specs.declared.sum.Totals.{Totals}
+
+-- ITEMS
+
+-- both count one variable, or both count one constraint
+abbrev pub same_counted : Item → Item → Bool
+same_counted (Value x c) (Value y d) = x == y
+same_counted (Truth n c) (Truth m d) = n == m
+same_counted a b = false
+
+-- the item counts the truth of the constraint
+abbrev pub counts_truth : ℕ → Item → Bool
+counts_truth n (Truth m c) = m == n
+counts_truth n item = false
+
+-- each item counts another variable or constraint, and none counts the sum itself
+abbrev pub are_items : ℕ → List Item → Bool
+are_items number [] = true
+are_items number (item ∷ items) =
+    not (counts_truth number item) && list_all (λ other. not (same_counted item other)) items && are_items number items
+
+-- NUMBERS
+
+-- the literal names an atom, a body, a constraint or a variable of the shape
+abbrev pub is_of : Shape → Lit → Bool
+is_of s (l.Atom n sign) = is_one_of s.atoms n
+is_of s (l.Body n sign) = is_one_of s.bodies n
+is_of s (l.Constraint n sign) = is_one_of s.constraints n
+is_of s (l.AtMost x k) = is_one_of s.variables x
+is_of s (l.AtLeast x k) = is_one_of s.variables x
+
+-- the item counts a variable or a constraint of the shape
+abbrev pub is_item_of : Shape → Item → Bool
+is_item_of s (Value x c) = is_one_of s.variables x
+is_item_of s (Truth n c) = is_one_of s.constraints n
+
+-- MEANING
+
+-- the bounds on the trail
+abbrev pub bounds_on : Assignment → Bounds
+bounds_on t = bounds_named t.shape.ends (lits_of t.entries)
+
+-- the step is that of the sum of this number
+abbrev pub is_step_of : ℕ → Step → Bool
+is_step_of number (Sum n) = n == number
+is_step_of number step = false
+
+-- the shape has the constraint and all that the items count
+abbrev pub fits_sum : ℕ → List Item → Shape → Bool
+fits_sum number items shape = is_one_of shape.constraints number && list_all (is_item_of shape) items
+
+-- the reason is a step of this sum, its literals are of the shape, and by the bounds that they name the sum is not what they say of it
+abbrev pub valid_sum : ℕ → List Item → ℤ → Shape → Reason → Bool
+valid_sum number items most shape reason =
+    list_all (is_of shape) reason.nogood && is_step_of number reason.step
+    && is_sum shape.ends reason.nogood number (Some (c.AtMost items most))
+
+-- the constraint is true and the greatest sum is at most the number, or it is false and the least sum exceeds the number
+abbrev pub settled_sum : ℕ → List Item → ℤ → Assignment → Bool
+settled_sum number items most t =
+    (is_true_on t (l.Constraint number true) && int_le (greatest_sum (bounds_on t) items) most)
+    || (is_true_on t (l.Constraint number false) && int_lt most (least_sum (bounds_on t) items))
+
+-- the constraint of this number: the sum of the items is at most a number
+abbrev pub sum_meaning : ℕ → List Item → ℤ → Meaning
+sum_meaning number items most = record {
+  number = number;
+  fits = fits_sum number items;
+  valid = valid_sum number items most;
+  counts = λ n. list_any (counts_truth n) items;
+  settled = settled_sum number items most;
+}
+
+-- STATE
+
+-- what is kept of the entries at which it has looked: the least and the greatest sum, and nothing before the first
+abbrev pub totals_after : List Item → Ends → List Entry → Option Totals
+totals_after items ends [] = None
+totals_after items ends (e ∷ es) = Some (record {
+  least = least_sum (bounds_named ends (lits_of (e ∷ es))) items;
+  greatest = greatest_sum (bounds_named ends (lits_of (e ∷ es))) items;
+})

@@ -1,0 +1,189 @@
+// The propagator of a sum.
+ghost use Rattle.std.specs.Prelude.{◌≡◌, ◌<◌, ◌≤◌, ◌^◌, pos, ◌+ℤ◌, ◌≤ℤ◌, ◌<ℤ◌, length, Some, None, true, [], IsTrue, IfOk, OnOk};
+ghost use Rattle.std.specs.Int.RustNames.{unsigned_abs};
+ghost use Rattle.std.specs.Option.{ForSome};
+ghost use Rattle.symbols.specs.declared.ends.Ends.{Ends};
+ghost use Rattle.linear_normal.specs.Bounds.{least_sum, greatest_sum};
+ghost use Rattle.trail.specs.Assignment.{IsAssignment, truth_on};
+ghost use Rattle.trail.specs.Growth.{Grows};
+ghost use Rattle.propagator_core.specs.Shown.{IsShown};
+ghost use Rattle.propagator_core.specs.Quiet.{Answers};
+ghost use Rattle.propagator_core.specs.Standing.{StandsFor};
+ghost use Rattle.sum_propagator.specs.Sums.{are_items, bounds_on, fits_sum, valid_sum, sum_meaning, totals_after};
+ghost use Rattle.sum_propagator.specs.Sides.{AreSmall, limit_of, side_sum};
+
+use crate::narrow::press;
+use crate::reason::explain;
+use crate::sum::{Sum, Totals, excluded, limit, total, totals_on};
+use linear_normal::Item;
+use literals::Lit;
+use propagator_core::{Outcome, Propagator};
+use std::alloc::Global;
+use symbols::{Listed, Memory};
+use trail::{Trail, Why};
+
+// How far the total is below the limit.
+fn slack_of(limit: i128, total: i128) -> u128
+    requires order { total ≤ℤ limit }
+    requires limit { unsigned_abs limit ≤ 2 ^ 121 }
+    requires total { unsigned_abs total ≤ 2 ^ 126 }
+    ensures { (total +ℤ pos result) ≡ limit }
+{
+    (limit - total).unsigned_abs()
+}
+
+// Answers for a constraint that is true on this side.
+fn decided(
+    alloc: Global,
+    trail: &mut Trail,
+    sum: &Sum,
+    side: bool,
+    total: i128,
+) -> Result<Outcome, Memory>
+    requires assignment { IsAssignment trail.old }
+    requires fits { IsTrue (fits_sum sum.now.number sum.now.items trail.old.shape) }
+    requires on { truth_on trail.old (Lit.Constraint sum.now.number side) ≡ Some true }
+    requires total { total ≡ side_sum side (bounds_on trail.old) sum.now.items }
+    requires small { unsigned_abs total ≤ 2 ^ 126 }
+    ensures grows { Grows (IsShown (valid_sum sum.now.number sum.now.items sum.now.most)) trail.old trail.new }
+    ensures answer { IfOk result (λ outcome. Answers (sum_meaning sum.now.number sum.now.items sum.now.most) trail.old trail.new outcome) }
+{
+    let limit = limit(sum.most, side);
+    if total > limit {
+        let on = Lit::Constraint(sum.number, side);
+        let reason = explain(alloc, trail, sum, side, sum.items.len(), on)?;
+        return Ok(Outcome::Conflict(reason));
+    }
+    let before = trail.length();
+    press(alloc, trail, sum, side, slack_of(limit, total))?;
+    if trail.length() == before {
+        Ok(Outcome::Quiet)
+    } else {
+        Ok(Outcome::Narrowed)
+    }
+}
+
+// Sets the open constraint to the other side, this one being excluded.
+fn settle(alloc: Global, trail: &mut Trail, sum: &Sum, side: bool) -> Result<(), Memory>
+    requires assignment { IsAssignment trail.old }
+    requires fits { IsTrue (fits_sum sum.now.number sum.now.items trail.old.shape) }
+    requires unknown { truth_on trail.old (Lit.Constraint sum.now.number true) ≡ None }
+    requires beyond { limit_of side sum.now.most <ℤ side_sum side (bounds_on trail.old) sum.now.items }
+    ensures grows { Grows (IsShown (valid_sum sum.now.number sum.now.items sum.now.most)) trail.old trail.new }
+    ensures longer { OnOk result (length trail.old.entries < length trail.new.entries) }
+{
+    let on = Lit::Constraint(sum.number, side);
+    let reason = explain(alloc, trail, sum, side, sum.items.len(), on)?;
+    trail.set(Lit::Constraint(sum.number, !side), Why::Shown(reason))?;
+    Ok(())
+}
+
+// Answers for these totals.
+fn answer(alloc: Global, trail: &mut Trail, sum: &Sum, totals: Totals) -> Result<Outcome, Memory>
+    requires assignment { IsAssignment trail.old }
+    requires fits { IsTrue (fits_sum sum.now.number sum.now.items trail.old.shape) }
+    requires least { totals.least ≡ least_sum (bounds_on trail.old) sum.now.items }
+    requires greatest { totals.greatest ≡ greatest_sum (bounds_on trail.old) sum.now.items }
+    requires small { AreSmall totals }
+    ensures grows { Grows (IsShown (valid_sum sum.now.number sum.now.items sum.now.most)) trail.old trail.new }
+    ensures answer { IfOk result (λ outcome. Answers (sum_meaning sum.now.number sum.now.items sum.now.most) trail.old trail.new outcome) }
+{
+    match trail.truth(Lit::Constraint(sum.number, true)) {
+        Some(side) => decided(alloc, trail, sum, side, total(totals, side)),
+        None => match excluded(sum.most, totals) {
+            None => Ok(Outcome::Quiet),
+            Some(side) => {
+                settle(alloc, trail, sum, side)?;
+                Ok(Outcome::Narrowed)
+            }
+        },
+    }
+}
+
+// The totals on the trail: those that are kept where nothing is new, else anew.
+fn look(trail: &Trail, sum: &Sum, seen: usize, kept: Option<Totals>) -> Totals
+    requires assignment { IsAssignment trail.now }
+    requires fits { IsTrue (fits_sum sum.now.number sum.now.items trail.now.shape) }
+    requires stands { StandsFor (λ ends entries. kept ≡ totals_after sum.now.items ends entries) seen trail.now }
+    requires small { ForSome kept AreSmall }
+    ensures least { result.least ≡ least_sum (bounds_on trail.now) sum.now.items }
+    ensures greatest { result.greatest ≡ greatest_sum (bounds_on trail.now) sum.now.items }
+    ensures small { AreSmall result }
+{
+    match kept {
+        Some(totals) if seen == trail.length() => totals,
+        _ => totals_on(trail, sum.items.items()),
+    }
+}
+
+// What is kept of totals: nothing before the first entry.
+fn kept(seen: usize, totals: Totals) -> Option<Totals>
+    ensures none { seen ≡ 0 → result ≡ None }
+    ensures some { 0 < seen → result ≡ Some totals }
+{
+    if seen == 0 { None } else { Some(totals) }
+}
+
+/// The constraint that a sum of items is at most a number, at work on a trail.
+///
+/// It keeps the least and the greatest sum for the entries at which it has looked.
+#[derive(Debug, Drop)]
+pub struct SumPropagator {
+    sum: Sum,
+    seen: usize,
+    totals: Option<Totals>,
+    ghost small: { ForSome totals AreSmall },
+}
+
+impl SumPropagator {
+    /// The sum of the items is at most this number. It has looked at nothing.
+    pub fn new(number: u32, items: Listed<Item>, most: i64) -> Result<SumPropagator, Memory>
+        requires items { IsTrue (are_items number items) }
+        requires few { length items ≤ 2 ^ 33 }
+        ensures meaning { IfOk result (λ p. sum_meaning p.sum.number p.sum.items p.sum.most ≡ sum_meaning number items most) }
+        ensures seen { IfOk result (λ p. p.seen ≡ 0) }
+        ensures stands { IfOk result (λ p. (e : Ends) → p.totals ≡ totals_after p.sum.items e []) }
+    {
+        Ok(SumPropagator {
+            sum: Sum {
+                number,
+                items,
+                most: i128::from(most),
+            },
+            seen: 0,
+            totals: None,
+        })
+    }
+}
+
+impl Propagator for SumPropagator {
+    ghost use Rattle.std.specs.Prelude.{◌≡◌};
+    ghost use Rattle.sum_propagator.specs.Sums.{sum_meaning, totals_after};
+
+    ghost meaning = { λ p. sum_meaning p.sum.number p.sum.items p.sum.most };
+
+    ghost looked = { λ p. p.seen };
+
+    ghost stands = { λ p ends entries. p.totals ≡ totals_after p.sum.items ends entries };
+
+    fn constraint(&self) -> u32 {
+        self.sum.number
+    }
+
+    fn seen(&self) -> usize {
+        self.seen
+    }
+
+    fn undo(&mut self, _trail: &Trail) {
+        self.seen = 0;
+        self.totals = None;
+    }
+
+    fn propagate(&mut self, alloc: Global, trail: &mut Trail) -> Result<Outcome, Memory> {
+        let length = trail.length();
+        let totals = look(trail, &self.sum, self.seen, self.totals);
+        self.seen = length;
+        self.totals = kept(length, totals);
+        answer(alloc, trail, &self.sum, totals)
+    }
+}
