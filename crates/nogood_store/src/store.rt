@@ -1,0 +1,130 @@
+// The store of held nogoods.
+ghost use Rattle.std.specs.Prelude.{◌≡◌, ◌≤◌, ◌++◌, ◌∷◌, [], ◌↔◌, length, IsTrue, IfOk, OnOk, OnErr, option_copied, reverse};
+ghost use Rattle.trail.specs.Growth.{Grows};
+ghost use Rattle.nogood_store.specs.Holding.{AreBelow, Ascends, nogood_under, numbered_from, IsHeld, IsFront};
+ghost use Rattle.nogood_store.specs.Propagation.{AllNamed, IsForced, Answers};
+
+use crate::propagate::{Unit, propagate};
+use crate::slot::{Slot, place_of};
+use indexmap::IndexSet;
+use literals::Nogood;
+use std::alloc::Global;
+use std::marker::Model;
+use symbols::{Listed, Memory};
+use trail::Trail;
+
+/// The nogoods that are held, each under its id. Clauses see them in the order of their ids, with the
+/// entries of the trail at which the store has looked: those must still be the first of the trail when it
+/// propagates.
+///
+/// Nogoods with the same literals share one place, which a hashed table finds.
+#[derive(Debug, Drop)]
+pub struct Store {
+    nogoods: IndexSet<Nogood>,
+    slots: Vec<Slot>,
+}
+
+impl Model for Store {
+    ghost use Rattle.std.specs.Prelude.{[]};
+    ghost use Rattle.nogood_store.specs.Holding.{Holding};
+    ghost use Rattle.nogood_store.specs.Kept.{IsStore, held_of};
+
+    ghost Value = { Holding };
+
+    ghost view = { λ s. record { held = held_of s.nogoods.keys s.slots.items; looked = [] } };
+
+    ghost invariant = { λ s. IsStore s.nogoods.keys s.slots.items };
+}
+
+// The list in the opposite order.
+fn reversed(alloc: Global, list: Listed<Nogood>) -> Result<Listed<Nogood>, Memory>
+    ensures { IfOk result (λ other. other ≡ reverse list) }
+{
+    let mut list = list;
+    let mut other = Listed::new(alloc);
+    'turn: loop {
+        match list.pop() {
+            Some(nogood) => other.push(nogood)?,
+            None => return Ok(other),
+        }
+    }
+}
+
+impl Store {
+    /// Holds the nogoods under the ids 1, 2 and so on. It has looked at no entry.
+    pub fn new(alloc: Global, input: Listed<Nogood>) -> Result<Store, Memory>
+        ensures { IfOk result (λ s. s ≡ record { held = numbered_from 1 input; looked = [] }) }
+    {
+        let mut rest = reversed(alloc, input)?;
+        let mut store = Store {
+            nogoods: IndexSet::new(alloc),
+            slots: Vec::new(alloc),
+        };
+        let count = rest.len() as u64;
+        let mut id = 0;
+        'fill: loop {
+            match rest.pop() {
+                Some(nogood) => {
+                    id += 1;
+                    store.add(id, nogood)?;
+                }
+                None => return Ok(store),
+            }
+        }
+    }
+
+    /// Holds one more nogood, under an id above all others. Amortised linear in its literals.
+    pub fn add(&mut self, id: u64, nogood: Nogood) -> Result<(), Memory>
+        requires { AreBelow id self.old.held }
+        ensures ok { OnOk result (self.new.held ≡ self.old.held ++ record { id = id; nogood = nogood } ∷ []) }
+        ensures err { OnErr result (self.new.held ≡ self.old.held) }
+        ensures looked { self.new.looked ≡ self.old.looked }
+    {
+        self.slots.reserve(1)?;
+        let (place, _) = self.nogoods.insert_full(nogood)?;
+        self.slots.push(Slot { id, place })?;
+        Ok(())
+    }
+
+    /// Sets the opposite of the one literal that is open in a held nogood whose others are true, and so on
+    /// until nothing is left to set, or all literals of a held nogood are true.
+    ///
+    /// Each round looks at every literal of every held nogood.
+    pub fn unit_propagate(&mut self, trail: &mut Trail) -> Result<Unit, Memory>
+        requires named { AllNamed trail.old.shape self.old.held }
+        requires looked { IsFront self.old.looked trail.old.entries }
+        ensures grows { Grows (IsForced self.old.held) trail.old trail.new }
+        ensures answer { IfOk result (λ answer. Answers self.old.held trail.new answer) }
+        ensures held { self.new.held ≡ self.old.held }
+        ensures looked { IsFront self.new.looked trail.new.entries }
+    {
+        propagate(&self.slots, self.nogoods.as_slice(), trail)
+    }
+
+    /// Forgets what it saw past the trail's length: to be called after the trail was undone.
+    pub fn undo(&mut self, _trail: &Trail)
+        ensures held { self.new.held ≡ self.old.held }
+        ensures front { IsFront self.new.looked self.old.looked }
+        ensures within { length self.new.looked ≤ length _trail.now.entries }
+    {
+        let _ = &self.slots;
+    }
+
+    /// The nogood that is held under the id. O(log n) in the number of held nogoods.
+    pub fn live(&self, id: u64) -> Option<&Nogood>
+        ensures value { option_copied result ≡ nogood_under self.now.held id }
+        ensures ascends { Ascends self.now.held }
+    {
+        match place_of(&self.slots, id) {
+            Some(place) => self.nogoods.get_index(place),
+            None => None,
+        }
+    }
+
+    /// Whether a nogood with the same literals is held. Linear in its literals.
+    pub fn is_held(&self, nogood: &Nogood) -> bool
+        ensures { IsTrue result ↔ IsHeld self.now.held nogood.now }
+    {
+        self.nogoods.contains(nogood)
+    }
+}
