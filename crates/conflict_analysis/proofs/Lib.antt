@@ -1,0 +1,11 @@
+pub mod BoardLaws
+pub mod PlaceLaws
+pub mod Standing
+pub mod TrailFacts
+pub mod CountLaws
+pub mod RunLaws
+pub mod PendLaws
+pub mod ResolveLaws
+pub mod DrainLaws
+pub mod FinalLaws
+pub mod JustifiedLaws

@@ -1,0 +1,5 @@
+pub mod Justified
+pub mod Levels
+pub mod Chains
+pub mod Marked
+pub mod Runs
