@@ -1,0 +1,14 @@
+use Rattle.program_meaning.proofs.Worlds.{same_models_law, down_law, up_law, objective_law}
+use Rattle.program_meaning.proofs.laws.grounding_keeps_models.Goals as goal
+
+pub returns-clause-both : goal.returns-clause-both
+returns-clause-both c = same_models_law
+
+pub returns-clause-down : goal.returns-clause-down
+returns-clause-down c = down_law
+
+pub returns-clause-up : goal.returns-clause-up
+returns-clause-up c = up_law
+
+pub returns-clause-objective : goal.returns-clause-objective
+returns-clause-objective c = objective_law

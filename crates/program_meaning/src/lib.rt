@@ -1,0 +1,23 @@
+//! What a program with variables means, and what grounding may rely on.
+//!
+//! The definitions stand in `specs/`, over the trees of `syntax_tree` in which intervals are the right sides
+//! of `=` and whole elements of `&dom` alone: instances, possible and relevant, tuples in collected form, the
+//! ground count, what is outside, safe and recursive rules, and the canonical ground program. Most functions
+//! are laws: their contracts say what follows from the definitions, and they do nothing. It promises that a
+//! program has one canonical ground program at most, with the program's constraint stable models and their
+//! objective, and that a search in steps finds each instance once. Stands on `symbols`, `syntax_tree` and
+//! `ground_model`.
+#![tactic(auto)]
+
+mod comparing;
+mod laws;
+mod numbering;
+#[cfg(test)]
+mod tests;
+
+pub use comparing::{Truth, compare_values, compare_worths, may_hold};
+pub use laws::{
+    canonical_programs_are_one, closed_sets_have_possible_atoms, grounding_keeps_models,
+    levels_fall, lists_decide_limits, models_are_possible, searches_find_each_once,
+};
+pub use numbering::number_literal;
