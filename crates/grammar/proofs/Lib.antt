@@ -1,0 +1,13 @@
+pub mod WordLemmas
+pub mod Lawful
+pub mod Rows
+pub mod Terms
+pub mod Operands
+pub mod Levels
+pub mod Deeper
+pub mod First
+pub mod SpelledLemmas
+pub mod TermLaws
+pub mod Tried
+pub mod Pairs
+pub mod Marked

@@ -1,0 +1,14 @@
+pub mod Word
+pub mod Row
+pub mod Term
+pub mod Reading
+pub mod Faults
+pub mod Shape
+pub mod Tree
+pub mod Sight
+pub mod Spelled
+pub mod Theory
+pub mod Statement
+pub mod StatementTree
+pub mod StatementSight
+pub mod Check
