@@ -1,0 +1,71 @@
+-- Counts step by step.
+use Rattle.std.proofs.Common.{◌≡◌, ◌<◌, ◌≤◌, ◌+◌, ◌-◌, ◌*◌, ◌^◌, drop, unsigned_abs, slice_index_or, FitsSigned, ℕ, zero, suc, Bool, true, false, ℤ, pos, ◌+ℤ◌, List, [], ◌∷◌, filter, length, cond, refl, sym, ◌∙◌, ap, ap₂, arith}
+use Rattle.std.specs.Int.{w128}
+use Rattle.std.specs.List.{AllByRecursion, list_any, range_with_len}
+use Rattle.std.proofs.lemmas.Int.{ints, fits_signed_from_abs}
+use Rattle.ground_model.specs.declared.linear.Place.{Place}
+use Rattle.ground_model.proofs.Products.{drop_next}
+use Rattle.linear_normal.specs.Steps.{total_duration}
+use Rattle.derivation_meaning.specs.Counts.{one_if, count_of, work_if, work_in}
+use Rattle.derivation_meaning.specs.Sizes.{IsShort}
+
+pub count_is : {X : Type 0} (test : X → Bool) (xs : List X) → length (filter test xs) ≡ count_of test xs
+count_is test [] = refl
+count_is test (x ∷ xs) = go (test x) (count_is test xs)
+  where
+    go : (b : Bool) → length (filter test xs) ≡ count_of test xs → length (cond b (x ∷ filter test xs) (filter test xs)) ≡ one_if b + count_of test xs
+    go true e = omega (arith, e)
+    go false e = omega (arith, e)
+
+pub work_is : (test : Place → Bool) (places : List Place) → total_duration (filter test places) ≡ work_in test places
+work_is test [] = refl
+work_is test (place ∷ places) = go (test place) (work_is test places)
+  where
+    go : (b : Bool) → total_duration (filter test places) ≡ work_in test places
+        → total_duration (cond b (place ∷ filter test places) (filter test places)) ≡ work_if b place +ℤ work_in test places
+    go true e = ap (λ z. place.duration +ℤ z) e
+    go false e = e ∙ omega (arith, ints)
+
+pub range_next : (a n : ℕ) → 0 < n → range_with_len a n ≡ a ∷ range_with_len (a + 1) (n - 1)
+range_next a zero h = absurd (omega (arith, h))
+range_next a (suc n) h = let e : suc n - 1 ≡ n = omega arith in rw e refl
+
+pub none_at : (test : ℕ → Bool) (found : Bool) (at n : ℕ) → at < n → found ≡ list_any test (range_with_len (1 + at) (n - at)) → test (at + 1) ≡ false
+    → found ≡ list_any test (range_with_len (1 + (at + 1)) (n - (at + 1)))
+none_at test found at n below is no_here =
+    let next : range_with_len (1 + at) (n - at) ≡ (1 + at) ∷ range_with_len (1 + at + 1) (n - at - 1) = range_next (1 + at) (n - at) (omega (arith, below)) in
+    let a : 1 + at ≡ at + 1 = omega arith in
+    let b : 1 + at + 1 ≡ 1 + (at + 1) = omega arith in
+    let c : n - at - 1 ≡ n - (at + 1) = omega arith in
+    let here : test (1 + at) ≡ false = ap test a ∙ no_here in
+    is ∙ ap (list_any test) next ∙ rw here (ap (λ xs. list_any test xs) (ap₂ range_with_len b c))
+
+pub some_at : (test : ℕ → Bool) (found : Bool) (at n : ℕ) → at < n → found ≡ list_any test (range_with_len (1 + at) (n - at)) → test (at + 1) ≡ true → found ≡ true
+some_at test found at n below is yes_here =
+    let next : range_with_len (1 + at) (n - at) ≡ (1 + at) ∷ range_with_len (1 + at + 1) (n - at - 1) = range_next (1 + at) (n - at) (omega (arith, below)) in
+    let a : 1 + at ≡ at + 1 = omega arith in
+    let here : test (1 + at) ≡ true = ap test a ∙ yes_here in
+    is ∙ ap (list_any test) next ∙ rw here refl
+
+pub record WorkStep (test : Place → Bool) (places : List Place) (i : ℕ) (total work term : ℤ) : Type 0 where
+  pub so_far : (work +ℤ term) +ℤ work_in test (drop (i + 1) places) ≡ total
+  pub short : AllByRecursion IsShort (drop (i + 1) places)
+  pub size : unsigned_abs (work +ℤ term) ≤ (i + 1) * 2 ^ 31
+
+pub work_step : (test : Place → Bool) (places : List Place) (i : ℕ) (place : Place) (total work term : ℤ) → i < length places
+    → place ≡ slice_index_or places i place
+    → work +ℤ work_in test (drop i places) ≡ total
+    → AllByRecursion IsShort (drop i places)
+    → unsigned_abs work ≤ i * 2 ^ 31
+    → term ≡ work_if (test place) place
+    → unsigned_abs term ≤ 2 ^ 31
+    → WorkStep test places i total work term
+work_step test places i place total work term below at so_far short size is small =
+    let next : drop i places ≡ place ∷ drop (i + 1) places = drop_next places i place below ∙ ap (λ p. p ∷ drop (i + 1) places) (sym at) in
+    let short = rw next at short in
+    let so_far : work +ℤ (work_if (test place) place +ℤ work_in test (drop (i + 1) places)) ≡ total = ap (λ ps. work +ℤ work_in test ps) (sym next) ∙ so_far in
+    let so_far : work +ℤ (term +ℤ work_in test (drop (i + 1) places)) ≡ total = ap (λ z. work +ℤ (z +ℤ work_in test (drop (i + 1) places))) is ∙ so_far in
+    record { so_far = omega (arith, ints); short = short.1; size = omega (arith, ints) }
+
+pub work_fits : (i : ℕ) (z : ℤ) → i < 2 ^ 32 → unsigned_abs z ≤ (i + 1) * 2 ^ 31 → FitsSigned w128 z
+work_fits i z few size = fits_signed_from_abs w128 z (omega (arith, few, size))

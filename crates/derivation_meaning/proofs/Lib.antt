@@ -1,0 +1,14 @@
+pub mod AnswerLemmas
+pub mod Sound
+pub mod Accepted
+pub mod Inputs
+pub mod LawProofs
+pub mod SumLemmas
+pub mod StepLemmas
+pub mod CountLemmas
+pub mod SizedLemmas
+pub mod ReplayLemmas
+pub mod SameLemmas
+pub mod EndLemmas
+pub mod AnswerLineLemmas
+pub mod NewLemmas
