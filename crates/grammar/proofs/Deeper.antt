@@ -215,29 +215,29 @@ module _ {U V : Type 0} (read : Reader U) (read2 : Reader V) (deeper : Deeper re
 
 -- ---- operands
 -- the first level may be the last
-abbrev pub LevelDeeper : {D R D2 R2 : Type 0} → Level D R → R2 × Reader D2 → Type 0
+abbrev pub LevelDeeper : {D R D' R' : Type 0} → Level D R → R' × Reader D' → Type 0
 LevelDeeper None inner2 = Unit {0}
 LevelDeeper (Some inner) inner2 = Deeper inner.1 inner2.1
 
-module _ {D2 R2 : Type 0} (inner2 : R2 × Reader D2) (shrinks : Shrinks inner2.1) where
+module _ {D' R' : Type 0} (inner2 : R' × Reader D') (shrinks : Shrinks inner2.1) where
   opened_deeper : {D R A A2 : Type 0} (level : Level D R) (f : R × Reader D → Reader A) (f2 : Reader A2) → LevelDeeper level inner2
       → ((inner : R × Reader D) → Deeper inner.1 inner2.1 → Deeper (f inner) f2) → Shrinks f2 → (ts : List Word) → After (opened level f ts) (f2 ts)
   opened_deeper None f f2 h g s ts = within_past (length ts) (suc (length ts)) (f2 ts) (s ts) (omega arith)
   opened_deeper (Some inner) f f2 h g s ts = g inner h ts
 
-  applied_shrinks : (name : List ℕ) → Shrinks (applied_with {R = R2} name inner2)
+  applied_shrinks : (name : List ℕ) → Shrinks (applied_with {R = R'} name inner2)
   applied_shrinks name ts = then_shrinks (length ts) (args_with inner2.1 ts) _ (args_shrinks inner2.1 shrinks ts) (λ a. before_shrinks m.Close (atom (applied name a)))
 
   negated_shrinks : Shrinks (negated_with inner2)
   negated_shrinks ts = then_shrinks (length ts) (inner2.1 ts) _ (shrinks ts) (λ d rest. omega arith)
 
-  tuple_shrinks : (t : TermOf D2) → Shrinks (tuple_with inner2 t)
+  tuple_shrinks : (t : TermOf D') → Shrinks (tuple_with inner2 t)
   unfolding tuple_with
   tuple_shrinks t ts =
       if_within (length ts) (is_next m.Close ts) _ _ (drop_shorter ts)
       (then_shrinks (length ts) (args_with inner2.1 ts) _ (args_shrinks inner2.1 shrinks ts) (λ a. before_shrinks m.Close (tuple t a)))
 
-  group_shrinks : (t : TermOf D2) → Shrinks (group_with inner2 t)
+  group_shrinks : (t : TermOf D') → Shrinks (group_with inner2 t)
   unfolding group_with
   group_shrinks t ts =
       if_within (length ts) (is_next m.Close ts) _ _ (drop_shorter ts)
@@ -250,7 +250,7 @@ module _ {D2 R2 : Type 0} (inner2 : R2 × Reader D2) (shrinks : Shrinks inner2.1
       (then_shrinks (length ts) (term_with inner2.1 ts) (group_with inner2) (term_shrinks inner2.1 shrinks ts) group_shrinks)
 
   module _ {D R : Type 0} (inner : R × Reader D) (deeper : Deeper inner.1 inner2.1) where
-    applied_deeper : (name : List ℕ) → Deeper (applied_with {R = R} name inner) (applied_with {R = R2} name inner2)
+    applied_deeper : (name : List ℕ) → Deeper (applied_with {R = R} name inner) (applied_with {R = R'} name inner2)
     applied_deeper name ts =
         then_deeper (args_with inner.1 ts) (args_with inner2.1 ts) _ _ (args_deeper inner.1 inner2.1 deeper shrinks ts)
         (λ a a2 rest. before_deeper m.Close (atom (applied name a)) (atom (applied name a2)) rest) (λ a2. before_shrinks m.Close (atom (applied name a2)))
@@ -258,14 +258,14 @@ module _ {D2 R2 : Type 0} (inner2 : R2 × Reader D2) (shrinks : Shrinks inner2.1
     negated_deeper : Deeper (negated_with inner) (negated_with inner2)
     negated_deeper ts = then_deeper (inner.1 ts) (inner2.1 ts) _ _ (deeper ts) (λ d d2 rest. (negated d2, refl)) (λ d2 rest. omega arith)
 
-    tuple_deeper : (t : TermOf D) (t2 : TermOf D2) → Deeper (tuple_with inner t) (tuple_with inner2 t2)
+    tuple_deeper : (t : TermOf D) (t2 : TermOf D') → Deeper (tuple_with inner t) (tuple_with inner2 t2)
     unfolding tuple_with
     tuple_deeper t t2 ts =
         if_deeper (is_next m.Close ts) _ _ _ _ (single t2, refl)
         (then_deeper (args_with inner.1 ts) (args_with inner2.1 ts) _ _ (args_deeper inner.1 inner2.1 deeper shrinks ts)
         (λ a a2 rest. before_deeper m.Close (tuple t a) (tuple t2 a2) rest) (λ a2. before_shrinks m.Close (tuple t2 a2)))
 
-    group_deeper : (t : TermOf D) (t2 : TermOf D2) → Deeper (group_with inner t) (group_with inner2 t2)
+    group_deeper : (t : TermOf D) (t2 : TermOf D') → Deeper (group_with inner t) (group_with inner2 t2)
     unfolding group_with
     group_deeper t t2 ts = if_deeper (is_next m.Close ts) _ _ _ _ (group t2, refl) (if_deeper (is_next m.Comma ts) _ _ _ _ (tuple_deeper t t2 (drop 1 ts)) refl)
 
