@@ -14,16 +14,16 @@ use Rattle.ground_model.proofs.Bools.{and_elim, and_intro, or_elim, or_left, or_
 use Rattle.linear_normal.specs.Contents.{Term, Variable, Counted, Content, SumAtMost, SumEquals, SumDiffers, InSet, AllDiffer, NoneOverlap, SomeTrue, same_term, same_interval, same_content}
 use Rattle.linear_normal.specs.Demands.{with_content, number_of}
 
-int_sound : (a b : ℤ) → int_eq a b ≡ true → a ≡ b
+pub int_sound : (a b : ℤ) → int_eq a b ≡ true → a ≡ b
 int_sound a b e = grind (arith, ints)
 
-int_same : (a : ℤ) → int_eq a a ≡ true
+pub int_same : (a : ℤ) → int_eq a a ≡ true
 int_same a = grind (arith, ints)
 
-nat_same : (a : ℕ) → (a == a) ≡ true
+pub nat_same : (a : ℕ) → (a == a) ≡ true
 nat_same a = grind (arith, nat_tests)
 
-nat_sound : (a b : ℕ) → nat_eq a b ≡ true → a ≡ b
+pub nat_sound : (a b : ℕ) → nat_eq a b ≡ true → a ≡ b
 nat_sound a b e = grind (arith, nat_tests)
 
 pub lists_sound : {X : Type 0} (eq : X → X → Bool) → ((a b : X) → eq a b ≡ true → a ≡ b) → (xs ys : List X) → pointwise eq xs ys ≡ true → xs ≡ ys
@@ -48,17 +48,17 @@ pair_sound a b e =
 pair_same : (a : ℕ × ℤ) → same_pair a a ≡ true
 pair_same a = and_intro (a.0 == a.0) (int_eq a.1 a.1) (nat_same a.0) (int_same a.1)
 
-interval_sound : (a b : ℤ × ℤ) → same_interval a b ≡ true → a ≡ b
+pub interval_sound : (a b : ℤ × ℤ) → same_interval a b ≡ true → a ≡ b
 interval_sound a b e =
     let p = and_elim (int_eq a.0 b.0) (int_eq a.1 b.1) e in
     let f : a.0 ≡ b.0 = int_sound a.0 b.0 p.0 in
     let g : a.1 ≡ b.1 = int_sound a.1 b.1 p.1 in
     (λ i. (f i, g i))
 
-interval_same : (a : ℤ × ℤ) → same_interval a a ≡ true
+pub interval_same : (a : ℤ × ℤ) → same_interval a a ≡ true
 interval_same a = and_intro (int_eq a.0 a.0) (int_eq a.1 a.1) (int_same a.0) (int_same a.1)
 
-place_sound : (a b : Place) → same_place a b ≡ true → a ≡ b
+pub place_sound : (a b : Place) → same_place a b ≡ true → a ≡ b
 place_sound a b e =
     let p = and_elim (pointwise same_pair a.linear.pairs b.linear.pairs && int_eq a.linear.constant b.linear.constant && int_eq a.duration b.duration) (pointwise nat_eq a.rest b.rest) e in
     let q = and_elim (pointwise same_pair a.linear.pairs b.linear.pairs && int_eq a.linear.constant b.linear.constant) (int_eq a.duration b.duration) p.0 in
@@ -69,7 +69,7 @@ place_sound a b e =
     let k : a.rest ≡ b.rest = lists_sound nat_eq nat_sound a.rest b.rest p.1 in
     (λ i. record { linear = record { pairs = f i; constant = g i }; duration = h i; rest = k i })
 
-place_same : (a : Place) → same_place a a ≡ true
+pub place_same : (a : Place) → same_place a a ≡ true
 place_same a =
     and_intro (pointwise same_pair a.linear.pairs a.linear.pairs && int_eq a.linear.constant a.linear.constant && int_eq a.duration a.duration) (pointwise nat_eq a.rest a.rest)
     (and_intro (pointwise same_pair a.linear.pairs a.linear.pairs && int_eq a.linear.constant a.linear.constant) (int_eq a.duration a.duration)
@@ -79,7 +79,7 @@ place_same a =
 abbrev of : (xs : List (ℤ × ℤ)) → are_parted xs ≡ true → IntSet
 of xs p = record { intervals = xs; parted = p }
 
-set_sound : (a b : IntSet) → pointwise same_interval a.intervals b.intervals ≡ true → a ≡ b
+pub set_sound : (a b : IntSet) → pointwise same_interval a.intervals b.intervals ≡ true → a ≡ b
 set_sound a b e =
     set_with a.intervals a.parted b.intervals (lists_sound same_interval interval_sound a.intervals b.intervals e) b.parted
   where
@@ -144,7 +144,7 @@ at_number (c ∷ contents) content e = go (same_content c content) refl e (at_nu
     go false is e rec = let r = rec e in (suc r.0, (let f = r.1 in omega arith), r.2)
 
 -- what is there stays
-kept : (contents : List Content) (content added : Content) → has_content contents content ≡ true → has_content (with_content contents added) content ≡ true
+pub kept : (contents : List Content) (content added : Content) → has_content contents content ≡ true → has_content (with_content contents added) content ≡ true
 kept contents content added e = go (has_content contents added)
   where
     longer : (cs : List Content) → has_content cs content ≡ true → has_content (cs ++ added ∷ []) content ≡ true
@@ -161,7 +161,7 @@ kept contents content added e = go (has_content contents added)
     go false = longer contents e
 
 -- what is added is there
-added_is_there : (contents : List Content) (added : Content) → has_content (with_content contents added) added ≡ true
+pub added_is_there : (contents : List Content) (added : Content) → has_content (with_content contents added) added ≡ true
 added_is_there contents added = go (has_content contents added) refl
   where
     last : (cs : List Content) → has_content (cs ++ added ∷ []) added ≡ true
@@ -172,7 +172,7 @@ added_is_there contents added = go (has_content contents added) refl
     go true is = is
     go false is = last contents
 
-fold_keeps : (contents demands : List Content) (content : Content) → has_content contents content ≡ true → has_content (fold with_content contents demands) content ≡ true
+pub fold_keeps : (contents demands : List Content) (content : Content) → has_content contents content ≡ true → has_content (fold with_content contents demands) content ≡ true
 fold_keeps contents [] content e = e
 fold_keeps contents (d ∷ demands) content e = fold_keeps (with_content contents d) demands content (kept contents content d e)
 
