@@ -2,6 +2,9 @@ pub mod StableLemmas
 pub mod NogoodLemmas
 pub mod CompletionLemmas
 pub mod LitLemmas
+pub mod RowLemmas
 pub mod AtomLemmas
 pub mod RuleLemmas
+pub mod WaitLemmas
+pub mod TightLemmas
 pub mod Examples

@@ -9,7 +9,6 @@ use Rattle.symbols.specs.declared.rel.Rel.TheVariants.{Equal, NotEqual, Less, Le
 use Rattle.literals.specs.declared.lit.Lit.{Lit}
 use Rattle.literals.specs.declared.lit.Lit.TheVariants as l
 use Rattle.literals.specs.Lits.{IsLit}
-use Rattle.literals.specs.Nogoods.{canonical}
 use Rattle.literals.proofs.Puts.{all_joined}
 use Rattle.ground_model.specs.declared.rule.BodyLit.{BodyLit}
 use Rattle.ground_model.specs.declared.rule.BodyLit.TheVariants as b
@@ -24,7 +23,7 @@ use Rattle.ground_model.specs.declared.program.GroundProgram.{GroundProgram}
 use Rattle.ground_model.specs.Members.{IsMember}
 use Rattle.ground_model.specs.Sound.{first_places, total_constant}
 use Rattle.ground_model.specs.Sizes.{IsReadable, IsReadableItem, IsReadableHead, IsReadableRule}
-use Rattle.ground_model.proofs.MemberLemmas.{property_member, map_member}
+use Rattle.ground_model.proofs.MemberLemmas.{property_member, property_map, map_member}
 use Rattle.ground_model.proofs.SizeLemmas.{readable_rules}
 use Rattle.ground_model.proofs.WayLemmas.{flat_member}
 use Rattle.linear_normal.specs.declared.numbered.Conjunction.{Conjunction}
@@ -64,12 +63,13 @@ module _ (program : GroundProgram) where
   lit_known (b.Atom a sign) is = let above = is.above in omega (arith, above)
   lit_known (b.Theory relation sign) is = number_counted cs (relation_content variables relation)
 
-  body_known : (body : List BodyLit) → AllByRecursion (IsReadable atoms variables) body → IsConjunction (conjunction_of cs variables body)
-  body_known body is = All-from_recursion IsLit (canonical (map (lit_of cs variables) body)) (all_joined IsLit [] (map (lit_of cs variables) body) tt (each body is))
+  -- a property of the literals of readable bodies holds of sorted bodies too
+  body_has : (P : Lit → Type 0) → ((literal : BodyLit) → IsReadable atoms variables literal → P (lit_of cs variables literal)) → (body : List BodyLit) → AllByRecursion (IsReadable atoms variables) body → AllByRecursion P (conjunction_of cs variables body).lits
+  body_has P f body is = all_joined P [] (map (lit_of cs variables) body) tt (each body is)
     where
-      each : (xs : List BodyLit) → AllByRecursion (IsReadable atoms variables) xs → AllByRecursion IsLit (map (lit_of cs variables) xs)
+      each : (xs : List BodyLit) → AllByRecursion (IsReadable atoms variables) xs → AllByRecursion P (map (lit_of cs variables) xs)
       each [] is = tt
-      each (x ∷ xs) is = (lit_known x is.0, each xs is.1)
+      each (x ∷ xs) is = (f x is.0, each xs is.1)
 
   append_known : (xs ys : List BodyLit) → AllByRecursion (IsReadable atoms variables) xs → AllByRecursion (IsReadable atoms variables) ys → AllByRecursion (IsReadable atoms variables) (xs ++ ys)
   append_known [] ys p q = q
@@ -110,15 +110,17 @@ module _ (program : GroundProgram) where
   rules_known : AllByRecursion (IsReadableRule atoms variables) program.rules
   rules_known = readable_rules (length program.symbols) atoms variables program.ends program.rules program.sound_rules
 
-  pub bodies_known : All IsConjunction (map (conjunction_of cs variables) (flat_map bodies_in program.rules))
+  pub bodies_have : (P : Lit → Type 0) → ((literal : BodyLit) → IsReadable atoms variables literal → P (lit_of cs variables literal)) → AllByRecursion (λ conjunction. AllByRecursion P conjunction.lits) (numbering program).bodies
+  bodies_have P f =
+      all_map (λ conjunction. AllByRecursion P conjunction.lits) (conjunction_of cs variables) (flat_map bodies_in program.rules)
+      (λ body m.
+      let r = flat_member bodies_in program.rules body m in
+      body_has P f body (rule_bodies_known r.0 (property_member (IsReadableRule atoms variables) program.rules r.0 rules_known r.1) body r.2))
+
+  bodies_known : All IsConjunction (numbering program).bodies
   bodies_known =
-      All-from_recursion IsConjunction (map (conjunction_of cs variables) (flat_map bodies_in program.rules)) (each (flat_map bodies_in program.rules) (λ body m.
-      let f = flat_member bodies_in program.rules body m in
-      rule_bodies_known f.0 (property_member (IsReadableRule atoms variables) program.rules f.0 rules_known f.1) body f.2))
-    where
-      each : (xs : List (List BodyLit)) → ((x : List BodyLit) → IsMember xs x → AllByRecursion (IsReadable atoms variables) x) → AllByRecursion IsConjunction (map (conjunction_of cs variables) xs)
-      each [] f = tt
-      each (x ∷ xs) f = (body_known x (f x (inl refl)), each xs (λ y m. f y (inr m)))
+      All-from_recursion IsConjunction (numbering program).bodies
+      (property_map (λ conjunction. AllByRecursion IsLit conjunction.lits) IsConjunction (λ conjunction. All-from_recursion IsLit conjunction.lits) (numbering program).bodies (bodies_have IsLit lit_known))
 
   placed_counted : (start : ℕ) (rules : List GroundRule) (at : Placed) → 1 ≤ start → IsMember (placed start rules) at → 1 ≤ at.first
   placed_counted start [] at s m = absurd m

@@ -3,3 +3,4 @@ pub mod Loops
 pub mod Tight
 pub mod Laws
 pub mod Parts
+pub mod Waits

@@ -2,17 +2,28 @@
 //!
 //! The definitions stand in `specs/`: the input nogoods of a ground program, in order, the loop nogood of a
 //! set of atoms, and when a program is tight. A world meets all of them exactly where it is a constraint
-//! stable model (Clark; Lin and Zhao; Gebser, Kaufmann, Schaub). Stands on `linear_normal`.
+//! stable model (Clark; Lin and Zhao; Gebser, Kaufmann, Schaub), and for a tight program it need meet no loop
+//! nogoods (Fages). Stands on `linear_normal`, and on `definite_rules` for the test of tightness.
 #![tactic(auto)]
 
 mod atom;
 mod body;
 mod constraint;
+#[cfg(test)]
+mod fixtures;
 mod input;
 mod laws;
+#[cfg(test)]
+mod numbering_fixtures;
+#[cfg(test)]
+mod numbering_tests;
 mod rule;
+#[cfg(test)]
+mod tests;
+mod tight;
 
 pub use input::complete;
 pub use laws::{
     nogoods_have_the_stable_models, stable_models_meet_reasons, tight_programs_need_no_loops,
 };
+pub use tight::is_tight;

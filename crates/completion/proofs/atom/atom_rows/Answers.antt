@@ -3,7 +3,9 @@ use Rattle.std.proofs.Math.Seq.{take-suc}
 use Rattle.literals.specs.declared.lit.Lit.{Lit}
 use Rattle.literals.specs.declared.lit.Lit.TheVariants.{Body}
 use Rattle.linear_normal.specs.declared.numbered.Support.{Support}
-use Rattle.completion.proofs.AtomLemmas.{row_pushed, rows_length}
+use Rattle.completion.specs.Parts.{atom_lits}
+use Rattle.completion.proofs.RowLemmas.{rows_length}
+use Rattle.completion.proofs.AtomLemmas.{row_pushed}
 use Rattle.completion.proofs.atom.atom_rows.Goals as goal
 
 pub index_mut-requires : goal.index_mut-requires
@@ -12,7 +14,7 @@ index_mut-requires c =
     let is = (c.requires.supports c.loop-support.support-index d c.loop-support-test.true).0 in
     let above = is.above in
     let known = is.known in
-    let n = rows_length vec_items c.loop-support.rows.items (take c.loop-support.support-index c.args.supports.now) c.args.atoms c.loop-support.invariant in
+    let n = rows_length vec_items (atom_lits (take c.loop-support.support-index c.args.supports.now)) c.loop-support.rows.items 1 c.args.atoms c.loop-support.invariant in
     let m = c.loop-support.rows.ok.0 in
     omega (arith, above, known, n, m)
 
