@@ -1,5 +1,5 @@
 -- Answers as lines name them.
-use Rattle.std.proofs.Common.{◌≡◌, ◌⊎◌, inl, inr, ℕ, zero, suc, ◌+◌, ◌<◌, ◌==◌, Bool, true, false, ◌&&◌, ℤ, List, [], ◌∷◌, map, length, drop, get_or, slice_index_or, refl, sym, ◌∙◌, ap, ap₂, subst, true≢false, eqb-true, arith}
+use Rattle.std.proofs.Common.{◌≡◌, inl, inr, ℕ, zero, suc, ◌+◌, ◌<◌, ◌==◌, true, ℤ, List, [], ◌∷◌, map, length, drop, slice_index_or, refl, sym, ◌∙◌, ap, ap₂, subst, eqb-true, arith}
 use Rattle.std.specs.List.{range_with_len}
 use Rattle.std.specs.Ordering.{int_eq}
 use Rattle.std.specs.Cmp.Lexicographic.{pointwise}

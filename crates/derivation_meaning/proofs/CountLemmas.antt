@@ -1,5 +1,5 @@
 -- Counts step by step.
-use Rattle.std.proofs.Common.{◌≡◌, ◌<◌, ◌≤◌, ◌+◌, ◌-◌, ◌*◌, ◌^◌, drop, unsigned_abs, slice_index_or, FitsSigned, ℕ, zero, suc, Bool, true, false, ℤ, pos, ◌+ℤ◌, List, [], ◌∷◌, filter, length, cond, refl, sym, ◌∙◌, ap, ap₂, arith}
+use Rattle.std.proofs.Common.{◌≡◌, ◌<◌, ◌≤◌, ◌+◌, ◌-◌, ◌*◌, ◌^◌, drop, unsigned_abs, slice_index_or, FitsSigned, ℕ, zero, suc, Bool, true, false, ℤ, ◌+ℤ◌, List, [], ◌∷◌, filter, length, cond, refl, sym, ◌∙◌, ap, ap₂, arith}
 use Rattle.std.specs.Int.{w128}
 use Rattle.std.specs.List.{AllByRecursion, list_any, range_with_len}
 use Rattle.std.proofs.lemmas.Int.{ints, fits_signed_from_abs}

@@ -1,5 +1,5 @@
 -- What a `q` line needs.
-use Rattle.std.proofs.Common.{◌≡◌, ◌≤◌, ℕ, Bool, true, ◌&&◌, ◌||◌, ℤ, List, [], ◌∷◌, map, length, Option, None, Some, refl, sym, ◌∙◌, ap}
+use Rattle.std.proofs.Common.{◌≡◌, ◌≤◌, ℕ, true, ◌&&◌, ◌||◌, ℤ, List, [], ◌∷◌, map, length, None, Some, refl, ap}
 use Rattle.std.specs.List.{list_any}
 use Rattle.derivation_meaning.specs.declared.state.Live.{Live}
 use Rattle.derivation_meaning.specs.State.{Entry, State, is_empty, holds_empty, last_cost}

@@ -12,3 +12,6 @@ pub mod SameLemmas
 pub mod EndLemmas
 pub mod AnswerLineLemmas
 pub mod NewLemmas
+pub mod NextLemmas
+pub mod ClaimedLemmas
+pub mod ExcludingLemmas

@@ -7,7 +7,7 @@ use Rattle.literals.proofs.Puts.{joined-nil}
 use Rattle.ground_model.proofs.Products.{drop_next}
 use Rattle.derivation_meaning.specs.declared.state.Live.{Live}
 use Rattle.derivation_meaning.specs.declared.state.PlainState.{PlainState}
-use Rattle.derivation_meaning.specs.State.{Entry, State, nogood_in, live_nogood}
+use Rattle.derivation_meaning.specs.State.{Entry, nogood_in, live_nogood}
 use Rattle.derivation_meaning.specs.Lines.{resolved_with, chained}
 use Rattle.derivation_meaning.specs.Replay.{found_in, chain_in}
 use Rattle.derivation_meaning.specs.View.{entry_of, state_of}

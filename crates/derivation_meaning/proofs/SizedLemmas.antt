@@ -1,5 +1,5 @@
 -- The sums of a program's constraints are short.
-use Rattle.std.proofs.Common.{◌≡◌, ◌⊎◌, inl, inr, ◌<◌, ◌≤◌, ◌+◌, ◌^◌, ℕ, zero, suc, Bool, true, false, cond, ◌&&◌, not, ℤ, pos, List, [], ◌∷◌, ◌++◌, map, filter, flat_map, length, refl, sym, ◌∙◌, ap, subst, arith}
+use Rattle.std.proofs.Common.{◌≡◌, ◌<◌, ◌≤◌, ◌+◌, ◌^◌, ℕ, zero, suc, Bool, true, false, cond, not, ℤ, pos, List, [], ◌∷◌, map, filter, flat_map, length, refl, sym, ap, subst, arith}
 use Rattle.std.specs.List.{AllByRecursion, list_all, range_with_len, fold}
 use Rattle.std.specs.Prelude.{nat_le, option_to_list, None, Some, IsTrue}
 use Rattle.std.specs.Ordering.{int_eq}
@@ -15,19 +15,18 @@ use Rattle.ground_model.specs.declared.rule.BodyLit.TheVariants as b
 use Rattle.ground_model.specs.declared.rule.Bound.{Bound}
 use Rattle.ground_model.specs.declared.rule.GroundHead.{GroundHead}
 use Rattle.ground_model.specs.declared.rule.GroundHead.TheVariants as h
-use Rattle.ground_model.specs.declared.rule.GroundRule.{GroundRule}
 use Rattle.ground_model.specs.declared.rule.TheoryHead.{TheoryHead}
 use Rattle.ground_model.specs.declared.rule.TheoryHead.TheVariants as t
 use Rattle.ground_model.specs.Members.{IsMember}
 use Rattle.ground_model.specs.Sizes.{AreSizedPlaces}
-use Rattle.ground_model.specs.Sound.{is_sound_theory, is_sound_head, is_sound_rule, are_sound_rules, is_sound_literal, are_sound_places, is_small_over, first_places}
+use Rattle.ground_model.specs.Sound.{is_sound_theory, is_sound_head, is_sound_rule, is_sound_literal, are_sound_places, is_small_over, first_places}
 use Rattle.ground_model.proofs.Bools.{and_elim}
-use Rattle.ground_model.proofs.MemberLemmas.{all_member, map_member, property_map, property_member, property_from_members}
+use Rattle.ground_model.proofs.MemberLemmas.{all_member, property_member, property_from_members}
 use Rattle.ground_model.proofs.SizeLemmas.{sized_tuples}
 use Rattle.linear_normal.specs.declared.numbered.Numbered.{Numbered}
 use Rattle.linear_normal.specs.Bodies.{Placed, placed, selections, atoms_in, numbers_with}
-use Rattle.linear_normal.specs.Contents.{Term, Variable, Counted, Content, SumAtMost, SumEquals, SumDiffers, InSet, AllDiffer, NoneOverlap, SomeTrue, opposite, opposite_term, compared, parts_of}
-use Rattle.linear_normal.specs.Demands.{moved_pairs, moved_coefficient, terms_of, relation_content, theory_content, bound_content, bounds_of, with_parts, literal_demands, choice_demands, head_demands, rule_demands, with_content}
+use Rattle.linear_normal.specs.Contents.{Term, Variable, Counted, Content, SumAtMost, SumEquals, SumDiffers, InSet, AllDiffer, NoneOverlap, SomeTrue, opposite, opposite_term, compared}
+use Rattle.linear_normal.specs.Demands.{moved_pairs, moved_coefficient, terms_of, relation_content, theory_content, bound_content, bounds_of, with_parts, literal_demands, choice_demands, head_demands, rule_demands}
 use Rattle.linear_normal.specs.Numbering.{numbering, contents_in, constraint_of, item_of}
 use Rattle.linear_normal.proofs.ListLemmas.{all_append, all_flat, all_map}
 use Rattle.linear_normal.proofs.ContentLemmas.{only_demanded}

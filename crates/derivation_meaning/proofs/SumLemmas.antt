@@ -1,5 +1,5 @@
 -- Sums under bounds.
-use Rattle.std.proofs.Common.{◌≡◌, ◌≤◌, ◌<◌, ◌^◌, ◌*◌, ℕ, zero, suc, true, false, ℤ, pos, negsuc, ◌*ℤ◌, unsigned_abs, int_lt, if◌then◌else◌, refl, sym, subst, mul-le-mul, FitsSigned, w32, w64, arith}
+use Rattle.std.proofs.Common.{◌≡◌, ◌≤◌, ◌^◌, ℕ, false, ℤ, pos, negsuc, ◌*ℤ◌, unsigned_abs, int_lt, if◌then◌else◌, refl, sym, subst, mul-le-mul, FitsSigned, w32, w64, arith}
 use Rattle.std.proofs.lemmas.Bool.Decides.{nat_tests}
 use Rattle.std.proofs.lemmas.Int.{unsigned_abs-mul, ints}
 use Rattle.linear_normal.specs.Bounds.{least_times, greatest_times}

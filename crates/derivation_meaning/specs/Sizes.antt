@@ -1,5 +1,5 @@
 -- Sizes by which sums fit 128 bits, as the code passes them on.
-use Rattle.std.specs.Prelude.{ℕ, ◌^◌, ◌<◌, List, length}
+use Rattle.std.specs.Prelude.{◌^◌, ◌<◌, List, length}
 use Rattle.std.specs.List.{AllByRecursion}
 use Rattle.ground_model.specs.declared.linear.Place.{Place}
 use Rattle.linear_normal.specs.declared.constraint.Constraint.{Constraint}

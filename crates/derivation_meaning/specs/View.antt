@@ -1,5 +1,5 @@
 -- The state that a plain one stands for.
-use Rattle.std.specs.Prelude.{List, map, Option, None, Some}
+use Rattle.std.specs.Prelude.{map, Option, None, Some}
 use Rattle.derivation_meaning.specs.declared.state.Live.{Live}
 use Rattle.derivation_meaning.specs.declared.state.Costed.{Costed}
 use Rattle.derivation_meaning.specs.declared.state.PlainState.{PlainState}

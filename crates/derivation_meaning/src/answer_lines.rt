@@ -50,7 +50,7 @@ pub fn is_new_answer(
 }
 
 // The cost of the last `o` line.
-fn last_cost(state: &PlainState) -> Option<i128>
+pub(crate) fn last_cost(state: &PlainState) -> Option<i128>
     ensures { result ≡ known.last_cost (state_of state.now) }
 {
     match &state.best {

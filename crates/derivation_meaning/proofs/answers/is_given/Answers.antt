@@ -1,4 +1,4 @@
-use Rattle.std.proofs.Common.{◌≡◌, true, false, IsTrue, refl, sym, ◌∙◌, true≢false, rules}
+use Rattle.std.proofs.Common.{◌≡◌, true, false, refl, sym, ◌∙◌, true≢false, rules}
 use Rattle.derivation_meaning.proofs.AnswerLineLemmas.{given_later, given_here}
 use Rattle.derivation_meaning.proofs.answers.is_given.Goals as goal
 

@@ -1,4 +1,4 @@
-use Rattle.std.proofs.Common.{◌≡◌, pos, drop}
+use Rattle.std.proofs.Common.{◌≡◌, drop}
 use Rattle.std.specs.List.{fold}
 use Rattle.linear_normal.specs.Bounds.{lowered}
 use Rattle.derivation_meaning.proofs.bounds.high.Given as goal

@@ -4,7 +4,7 @@ use Rattle.std.specs.Int.{w128}
 use Rattle.linear_normal.specs.Bounds.{bounds_named}
 use Rattle.linear_normal.specs.Steps.{is_within_window}
 use Rattle.derivation_meaning.specs.Counts.{work_in}
-use Rattle.derivation_meaning.proofs.CountLemmas.{WorkStep, work_step, work_fits}
+use Rattle.derivation_meaning.proofs.CountLemmas.{work_step, work_fits}
 use Rattle.derivation_meaning.proofs.disjoint.added.Goals as goal
 
 pub loop-place-preserved : goal.loop-place-preserved

@@ -1,4 +1,4 @@
-use Rattle.std.proofs.Common.{◌≡◌, sym, ◌∙◌, FitsSigned, to_z, of_z}
+use Rattle.std.proofs.Common.{sym, ◌∙◌, FitsSigned}
 use Rattle.std.proofs.lemmas.Int.{to_z-of_z}
 use Rattle.std.specs.Int.{w128}
 use Rattle.linear_normal.specs.Bounds.{bounds_named}
