@@ -1,1 +1,2 @@
 pub mod SeveralLaws
+mod HeldLaws

@@ -4,3 +4,4 @@ pub mod Shown
 pub mod Quiet
 pub mod Several
 pub mod Turns
+pub mod Held

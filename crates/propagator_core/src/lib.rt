@@ -11,6 +11,8 @@
 mod outcome;
 mod propagator;
 mod several;
+#[cfg(test)]
+mod tests;
 
 pub use outcome::Outcome;
 pub use propagator::Propagator;
