@@ -1,6 +1,6 @@
 -- The literals on which least values stand, and what follows for the least sum.
-use Rattle.std.proofs.Common.{◌≡◌, ℕ, zero, suc, ◌+◌, ◌-◌, ◌^◌, ◌<◌, ◌≤◌, ◌==◌, ◌&&◌, Bool, true, false, cond, IsTrue, refl, sym, ◌∙◌, ap, subst, arith, List, [], ◌∷◌, ◌++◌, length, get_or, drop, ℤ, pos, neg_ℤ, ◌+ℤ◌, ◌-ℤ◌, ◌≤ℤ◌, ◌<ℤ◌, ◌⊎◌, inl, inr, Result, Ok, Err}
-use Rattle.std.specs.Prelude.{int_le, int_lt, nat_le}
+use Rattle.std.proofs.Common.{◌≡◌, ℕ, zero, suc, ◌+◌, ◌<◌, ◌≤◌, Bool, true, false, IsTrue, refl, sym, ◌∙◌, ap, subst, arith, List, [], ◌∷◌, ◌++◌, length, get_or, drop, ℤ, pos, neg_ℤ, ◌+ℤ◌, ◌≤ℤ◌, ◌<ℤ◌, ◌⊎◌, inl, inr, Result, Ok, Err}
+use Rattle.std.specs.Prelude.{int_le}
 use Rattle.std.specs.List.{AllByRecursion}
 use Rattle.std.specs.Result.{OnOk}
 use Rattle.std.proofs.lemmas.Bool.Decides.{nat_tests}
@@ -8,8 +8,6 @@ use Rattle.std.proofs.lemmas.Int.{ints}
 use Rattle.std.proofs.lemmas.List.{append_assoc, append-nil, drop_more, drop_all}
 use Rattle.symbols.specs.declared.ends.Ends.{Ends}
 use Rattle.literals.specs.declared.lit.Lit.{Lit}
-use Rattle.literals.specs.declared.lit.Lit.TheVariants.{Atom, Body, Constraint, AtMost, AtLeast}
-use Rattle.literals.specs.Lits.{IsLit}
 use Rattle.linear_normal.specs.declared.constraint.Item.{Item}
 use Rattle.linear_normal.specs.declared.constraint.Item.TheVariants.{Value, Truth}
 use Rattle.linear_normal.specs.Bounds.{Bounds, bounds_named, least_times, greatest_times, least_item, greatest_item, least_sum, greatest_sum}
@@ -19,7 +17,7 @@ use Rattle.trail.specs.Implied.{implied}
 use Rattle.trail.specs.Assignment.{Assignment, IsAssignment, Names, lits_of, is_true_on}
 use Rattle.sum_propagator.specs.Sums.{is_item_of, bounds_on}
 use Rattle.sum_propagator.specs.Sides.{coefficient_of, low_in, high_in, low_end, high_end, at_least, at_most, InRange, signed_by, side_least, side_sum}
-use Rattle.sum_propagator.specs.Reasons.{Follow, CoversBut, IsBacking, IsBacked, IsOrTrue, BacksOne, Backs}
+use Rattle.sum_propagator.specs.Reasons.{CoversBut, IsBacking, IsBacked, IsOrTrue, BacksOne, Backs}
 use Rattle.sum_propagator.proofs.Times.{least_up, least_down, least_zero, least_times_up, least_opposite}
 use Rattle.sum_propagator.proofs.Ranges.{SaysLeast, SaysMost, implied-least, implied-most, low_from_end, high_from_end, low_says, high_says, Says, range_is}
 

@@ -1,20 +1,20 @@
 -- One literal more: the range of one item alone is another, and its least value is within the slack.
-use Rattle.std.proofs.Common.{◌≡◌, ℕ, zero, suc, ◌+◌, ◌<◌, ◌≤◌, ◌==◌, ◌||◌, Bool, true, false, not, cond, ◌&&◌, IsTrue, refl, sym, ◌∙◌, ap, subst, arith, List, [], ◌∷◌, ◌++◌, length, get_or, None, Some, ℤ, pos, ◌+ℤ◌, ◌-ℤ◌, ◌≤ℤ◌, ◌<ℤ◌, ◌⊎◌, inl, inr}
-use Rattle.std.specs.Prelude.{int_le, int_lt}
+use Rattle.std.proofs.Common.{◌≡◌, ℕ, suc, ◌<◌, ◌==◌, ◌||◌, Bool, true, false, not, cond, ◌&&◌, IsTrue, refl, sym, ◌∙◌, ap, subst, arith, List, [], ◌∷◌, ◌++◌, length, get_or, None, ℤ, pos, ◌+ℤ◌, ◌-ℤ◌, ◌≤ℤ◌, inl, inr}
+use Rattle.std.specs.Prelude.{int_le}
 use Rattle.std.specs.Int.{int_max, int_min}
-use Rattle.std.specs.List.{fold, AllByRecursion, list_any, list_all}
+use Rattle.std.specs.List.{AllByRecursion, list_any, list_all}
 use Rattle.std.proofs.lemmas.Bool.Decides.{nat_tests}
 use Rattle.std.proofs.lemmas.Int.{ints}
 use Rattle.symbols.specs.declared.ends.Ends.{Ends}
 use Rattle.literals.specs.declared.lit.Lit.{Lit}
 use Rattle.literals.specs.declared.lit.Lit.TheVariants.{Atom, Body, Constraint, AtMost, AtLeast}
-use Rattle.literals.specs.Lits.{implies_lit, complement_of}
+use Rattle.literals.specs.Lits.{implies_lit}
 use Rattle.literals.proofs.LitLaws.{implies_refl}
 use Rattle.linear_normal.specs.declared.constraint.Item.{Item}
 use Rattle.linear_normal.specs.declared.constraint.Item.TheVariants.{Value, Truth}
 use Rattle.linear_normal.specs.Bounds.{Bounds, bounds_named, raised, lowered, counted, discounted}
 use Rattle.trail.specs.Implied.{ends_imply, implied}
-use Rattle.trail.specs.Assignment.{Assignment, IsAssignment, lits_of, is_true_on, truth_on}
+use Rattle.trail.specs.Assignment.{Assignment, IsAssignment, lits_of, truth_on}
 use Rattle.trail.proofs.ImpliedLaws.{implied-push, implied_stays, implied_trans, open_is, fold-push}
 use Rattle.sum_propagator.specs.Sums.{same_counted, counts_truth, are_items, bounds_on}
 use Rattle.sum_propagator.specs.Sides.{coefficient_of, low_in, high_in, signed_by, side_least, side_greatest, side_sum, Rests}

@@ -4,5 +4,6 @@ mod Backing
 mod Validity
 mod Narrowing
 mod Forcing
+mod Few
 mod Settling
 mod TestLaws

@@ -1,38 +1,36 @@
 -- A literal that an item needs is open, and its opposite makes the sum exceed its limit; what stays as the trail grows.
-use Rattle.std.proofs.Common.{◌≡◌, ℕ, zero, suc, ◌+◌, ◌-◌, ◌^◌, ◌<◌, ◌≤◌, Bool, true, false, not, cond, ◌||◌, IsTrue, refl, sym, ◌∙◌, ap, subst, arith, List, [], ◌∷◌, ◌++◌, length, get_or, Option, None, Some, IfSome, IfNone, ℤ, pos, neg_ℤ, ◌+ℤ◌, ◌-ℤ◌, ◌≤ℤ◌, ◌<ℤ◌, ◌⊎◌, inl, inr}
-use Rattle.std.specs.Prelude.{int_le, int_lt}
+use Rattle.std.proofs.Common.{◌≡◌, ℕ, suc, ◌+◌, ◌<◌, Bool, true, false, ◌||◌, IsTrue, refl, sym, ◌∙◌, ap, subst, arith, List, [], ◌∷◌, length, get_or, Option, None, Some, IfSome, IfNone, ℤ, pos, ◌+ℤ◌, ◌-ℤ◌, ◌≤ℤ◌, ◌<ℤ◌, ◌⊎◌, inl, inr}
+use Rattle.std.specs.Prelude.{int_le}
 use Rattle.std.specs.List.{AllByRecursion, All, Contains, list_any, list_all}
 use Rattle.std.proofs.lemmas.Bool.Decides.{nat_tests}
 use Rattle.std.proofs.lemmas.Int.{ints}
 use Rattle.std.proofs.lemmas.List.{length-append}
 use Rattle.std.proofs.lemmas.List.Elements.{All-from_recursion, All-contains}
-use Rattle.symbols.specs.declared.ends.Ends.{Ends}
 use Rattle.literals.specs.declared.lit.Lit.{Lit}
-use Rattle.literals.specs.declared.lit.Lit.TheVariants.{Atom, Body, Constraint, AtMost, AtLeast}
+use Rattle.literals.specs.declared.lit.Lit.TheVariants.{Constraint}
 use Rattle.literals.specs.declared.reason.Reason.{Reason}
 use Rattle.literals.specs.Lits.{implies_lit, complement_of}
 use Rattle.linear_normal.specs.declared.constraint.Item.{Item}
 use Rattle.linear_normal.specs.declared.constraint.Item.TheVariants.{Value, Truth}
-use Rattle.linear_normal.specs.Bounds.{Bounds, bounds_named, least_times, greatest_times}
-use Rattle.linear_normal.specs.Steps.{is_one_of}
+use Rattle.linear_normal.specs.Bounds.{bounds_named, least_times, greatest_times}
 use Rattle.trail.specs.declared.shape.Shape.{Shape}
 use Rattle.trail.specs.declared.entry.Entry.{Entry}
 use Rattle.trail.specs.declared.entry.Why.TheVariants.{Shown}
 use Rattle.trail.specs.declared.entry.Placed.{Placed}
 use Rattle.trail.specs.declared.entry.Placed.TheVariants.{Already, Clash, Done}
 use Rattle.trail.specs.Implied.{implied, ends_imply}
-use Rattle.trail.specs.Assignment.{Assignment, IsAssignment, Names, lits_of, is_true_on, truth_on, entry_of, with_entry, Places}
+use Rattle.trail.specs.Assignment.{Assignment, IsAssignment, Names, lits_of, is_true_on, truth_on, entry_of, Places}
 use Rattle.trail.specs.Growth.{Grows}
 use Rattle.trail.specs.Forced.{OthersTrueOn, Forces}
 use Rattle.trail.proofs.ImpliedLaws.{implied_trans, open_is, truth-of}
 use Rattle.trail.proofs.AssignmentLaws.{true-truth, truth-true}
-use Rattle.trail.proofs.GrowthLaws.{grows_set, grows_on, grows_same, grows_shape, grows_length, grows_true}
-use Rattle.propagator_core.specs.Shown.{IsShown, IsConflict}
+use Rattle.trail.proofs.GrowthLaws.{grows_set, grows_same, grows_shape, grows_length, grows_true}
+use Rattle.propagator_core.specs.Shown.{IsShown}
 use Rattle.sum_propagator.specs.Sums.{is_item_of, fits_sum, valid_sum, bounds_on}
-use Rattle.sum_propagator.specs.Sides.{coefficient_of, low_in, high_in, at_least, at_most, InRange, signed_by, limit_of, side_least, side_greatest, side_sum, Rests, Lowers, Raises, Narrows}
-use Rattle.sum_propagator.specs.Reasons.{IsOrTrue, IsNeeded, CoversBut, Explains}
+use Rattle.sum_propagator.specs.Sides.{coefficient_of, low_in, high_in, at_least, at_most, InRange, signed_by, limit_of, side_least, side_sum, Rests, Lowers, Raises, Narrows}
+use Rattle.sum_propagator.specs.Reasons.{IsOrTrue, IsNeeded, Explains}
 use Rattle.sum_propagator.proofs.Ranges.{SaysLeast, SaysMost, implied-least, implied-most, range_is, Says}
-use Rattle.sum_propagator.proofs.Backing.{least_names, most_names, sum_beyond, sum_covers, sum_says, each_as, at_place}
+use Rattle.sum_propagator.proofs.Backing.{least_names, most_names, sum_beyond, sum_says, each_as}
 use Rattle.sum_propagator.proofs.Validity.{valid_by}
 
 most_opposite : (i : Item) (k : ℤ) → complement_of (at_most i k) ≡ at_least i (k +ℤ pos 1)

@@ -1,24 +1,21 @@
 -- What an item counts under the bounds that a list of literals names.
-use Rattle.std.proofs.Common.{◌≡◌, ℕ, ◌-◌, ◌^◌, ◌≤◌, ◌==◌, ◌&&◌, ◌||◌, Bool, true, false, cond, refl, sym, ◌∙◌, ap, subst, arith, List, [], ◌∷◌, ◌++◌, None, Some, ℤ, pos, neg_ℤ, ◌+ℤ◌, ◌-ℤ◌, ◌≤ℤ◌, ◌<ℤ◌, ◌⊎◌, inl, inr}
-use Rattle.std.specs.Prelude.{int_le, int_lt}
-use Rattle.std.specs.Int.{int_max, int_min}
+use Rattle.std.proofs.Common.{◌≡◌, ℕ, ◌-◌, ◌^◌, ◌≤◌, ◌==◌, ◌&&◌, ◌||◌, Bool, true, false, cond, refl, sym, ◌∙◌, ap, subst, arith, List, [], ◌∷◌, None, Some, ℤ, pos, neg_ℤ, ◌≤ℤ◌}
+use Rattle.std.specs.Prelude.{int_le}
 use Rattle.std.specs.Int.RustNames.{unsigned_abs}
-use Rattle.std.specs.List.{fold, list_any, AllByRecursion}
+use Rattle.std.specs.List.{fold, list_any}
 use Rattle.std.proofs.lemmas.Bool.Decides.{nat_tests}
 use Rattle.std.proofs.lemmas.Int.{ints}
 use Rattle.symbols.specs.declared.ends.Ends.{Ends}
 use Rattle.literals.specs.declared.lit.Lit.{Lit}
 use Rattle.literals.specs.declared.lit.Lit.TheVariants.{Atom, Body, Constraint, AtMost, AtLeast}
-use Rattle.literals.specs.Lits.{IsLit, implies_lit, complement_of}
+use Rattle.literals.specs.Lits.{implies_lit}
 use Rattle.linear_normal.specs.declared.constraint.Item.{Item}
 use Rattle.linear_normal.specs.declared.constraint.Item.TheVariants.{Value, Truth}
-use Rattle.linear_normal.specs.Bounds.{Bounds, bounds_named, raised, lowered, counted, discounted}
-use Rattle.trail.specs.declared.shape.Shape.{Shape}
-use Rattle.trail.specs.declared.entry.Entry.{Entry}
+use Rattle.linear_normal.specs.Bounds.{bounds_named, raised, lowered, counted, discounted}
 use Rattle.trail.specs.Implied.{implied, lower_of, upper_of, lower_after, upper_after}
-use Rattle.trail.specs.Assignment.{Assignment, IsAssignment, Follow, lits_of, is_true_on, truth_on, lower_on, upper_on}
-use Rattle.trail.proofs.ImpliedLaws.{implied-at_most, implied-at_least, open_is, fold-push}
-use Rattle.trail.proofs.AssignmentLaws.{agree_on, bounds_meet, true-truth, false-truth}
+use Rattle.trail.specs.Assignment.{Assignment, IsAssignment, lits_of, is_true_on, truth_on, lower_on, upper_on}
+use Rattle.trail.proofs.ImpliedLaws.{implied-at_most, implied-at_least}
+use Rattle.trail.proofs.AssignmentLaws.{agree_on, bounds_meet}
 use Rattle.sum_propagator.specs.Sums.{bounds_on}
 use Rattle.sum_propagator.specs.Sides.{low_in, high_in, low_end, high_end, at_least, at_most, InRange, least_count, greatest_count}
 

@@ -1,32 +1,31 @@
 -- Conflicts, a constraint that its sums settle, and what a quiet sum has left to say.
-use Rattle.std.proofs.Common.{◌≡◌, ℕ, zero, suc, ◌+◌, ◌<◌, ◌≤◌, ◌==◌, Bool, true, false, not, cond, ◌&&◌, ◌||◌, IsTrue, refl, sym, ◌∙◌, ap, subst, arith, List, [], ◌∷◌, ◌++◌, length, get_or, take, Option, None, Some, ℤ, pos, negsuc, neg_ℤ, ◌*ℤ◌, ◌+ℤ◌, ◌-ℤ◌, ◌≤ℤ◌, ◌<ℤ◌, ◌⊎◌, inl, inr}
-use Rattle.std.specs.Prelude.{int_le, int_lt, nat_le}
-use Rattle.std.specs.List.{AllByRecursion, All, Contains, list_any, list_all}
+use Rattle.std.proofs.Common.{◌≡◌, ℕ, suc, ◌<◌, ◌≤◌, ◌==◌, Bool, true, false, not, cond, ◌&&◌, ◌||◌, IsTrue, refl, sym, ◌∙◌, ap, subst, arith, List, [], ◌∷◌, length, get_or, Option, None, Some, ℤ, pos, negsuc, neg_ℤ, ◌*ℤ◌, ◌+ℤ◌, ◌-ℤ◌, ◌≤ℤ◌, ◌<ℤ◌, ◌⊎◌, inl, inr}
+use Rattle.std.specs.Prelude.{int_le, int_lt}
+use Rattle.std.specs.List.{AllByRecursion, Contains, list_any}
 use Rattle.std.proofs.lemmas.Bool.Decides.{nat_tests}
 use Rattle.std.proofs.lemmas.Int.{ints}
 use Rattle.std.proofs.lemmas.List.{take_all}
 use Rattle.std.proofs.lemmas.List.Elements.{All-from_recursion, All-contains, recursion_from_All}
 use Rattle.symbols.specs.declared.ends.Ends.{Ends}
 use Rattle.literals.specs.declared.lit.Lit.{Lit}
-use Rattle.literals.specs.declared.lit.Lit.TheVariants.{Atom, Body, Constraint, AtMost, AtLeast}
+use Rattle.literals.specs.declared.lit.Lit.TheVariants.{Constraint}
 use Rattle.literals.specs.declared.reason.Reason.{Reason}
-use Rattle.literals.specs.Lits.{implies_lit, complement_of, same_lit}
+use Rattle.literals.specs.Lits.{complement_of, same_lit}
 use Rattle.literals.specs.Nogoods.{has_lit}
 use Rattle.literals.proofs.LitLaws.{same_lit-equal}
 use Rattle.linear_normal.specs.declared.constraint.Item.{Item}
 use Rattle.linear_normal.specs.declared.constraint.Item.TheVariants.{Value, Truth}
 use Rattle.linear_normal.specs.Bounds.{Bounds, bounds_named, least_times, greatest_times, least_item, greatest_item, least_sum, greatest_sum}
 use Rattle.linear_normal.specs.Steps.{is_one_of}
-use Rattle.trail.specs.declared.shape.Shape.{Shape}
 use Rattle.trail.specs.declared.entry.Entry.{Entry}
 use Rattle.trail.specs.declared.entry.Why.TheVariants.{Shown}
 use Rattle.trail.specs.declared.entry.Placed.{Placed}
 use Rattle.trail.specs.Implied.{implied}
-use Rattle.trail.specs.Assignment.{Assignment, IsAssignment, Names, lits_of, is_true_on, truth_on, lower_on, upper_on, entry_of, Places}
+use Rattle.trail.specs.Assignment.{Assignment, IsAssignment, Names, lits_of, is_true_on, truth_on, Places}
 use Rattle.trail.specs.Growth.{Grows}
 use Rattle.trail.specs.Forced.{AllTrueOn, AllButOpen}
 use Rattle.trail.proofs.ImpliedLaws.{open_is, truth-of}
-use Rattle.trail.proofs.AssignmentLaws.{agree_on, true-truth, truth-true, false-truth}
+use Rattle.trail.proofs.AssignmentLaws.{agree_on, true-truth, false-truth}
 use Rattle.propagator_core.specs.Meaning.{Meaning}
 use Rattle.propagator_core.specs.Standing.{StandsFor}
 use Rattle.propagator_core.specs.Shown.{IsShown, IsConflict}
@@ -34,13 +33,13 @@ use Rattle.propagator_core.specs.Quiet.{IsDecided, IsQuiet}
 use Rattle.propagator_core.proofs.SeveralLaws.{stands_on}
 use Rattle.sum_propagator.specs.declared.sum.Totals.{Totals}
 use Rattle.sum_propagator.specs.Sums.{are_items, counts_truth, is_item_of, fits_sum, valid_sum, settled_sum, sum_meaning, bounds_on, totals_after}
-use Rattle.sum_propagator.specs.Sides.{coefficient_of, low_in, high_in, limit_of, side_least, side_sum, Rests}
-use Rattle.sum_propagator.specs.Reasons.{IsOrTrue, CoversBut, Explains}
+use Rattle.sum_propagator.specs.Sides.{low_in, high_in, limit_of, side_sum, Rests}
+use Rattle.sum_propagator.specs.Reasons.{IsOrTrue, Explains}
 use Rattle.sum_propagator.proofs.Ranges.{on_low, on_high, least-named, greatest-named}
 use Rattle.sum_propagator.proofs.Backing.{sum_covers, sum_says, each_as}
 use Rattle.sum_propagator.proofs.Validity.{valid_by, valid_cases, Excludes, side-true, side-false}
 use Rattle.sum_propagator.proofs.Narrowing.{reason_or_true, forces_by, grows_placed, items_of}
-use Rattle.sum_propagator.proofs.Forcing.{with_lit, bounds_with, follow_says, says_with, other_items, own_off, NoRepeat, once_rec, one_lit, rests_rec}
+use Rattle.sum_propagator.proofs.Forcing.{with_lit, bounds_with, follow_says, says_with, other_items, own_off, once_rec, one_lit, rests_rec}
 
 above : (m x y : ℤ) → m <ℤ x → x ≤ℤ y → m <ℤ y
 above m x y h g = omega (arith, ints, h, g)

@@ -1,5 +1,5 @@
 -- What the tests carry from call to call.
-use Rattle.std.proofs.Common.{◌≡◌, ℕ, IsTrue, refl, sym, ◌∙◌, ap, subst, arith, take, List, [], ℤ, Option}
+use Rattle.std.proofs.Common.{◌≡◌, ℕ, IsTrue, sym, subst, arith, take, List, [], ℤ, Option}
 use Rattle.symbols.specs.declared.ends.Ends.{Ends}
 use Rattle.literals.specs.declared.lit.Lit.{Lit}
 use Rattle.linear_normal.specs.declared.constraint.Item.{Item}
@@ -33,3 +33,6 @@ stands_new totals items seen t e h = record {
   within = omega (arith, e);
   for_these = subst (λ (n : ℕ). totals ≡ totals_after items t.shape.ends (take n t.entries)) (sym e) (h t.shape.ends);
 }
+
+pub fits_shape : (n : ℕ) (is : List Item) (a b : Shape) → b ≡ a → IsTrue (fits_sum n is a) → IsTrue (fits_sum n is b)
+fits_shape n is a b e h = subst (λ (s : Shape). IsTrue (fits_sum n is s)) (sym e) h

@@ -1,32 +1,27 @@
 -- When a reason of a sum is valid, and when it forces.
-use Rattle.std.proofs.Common.{◌≡◌, ℕ, zero, suc, ◌+◌, ◌<◌, ◌≤◌, ◌==◌, Bool, true, false, not, cond, ◌&&◌, ◌||◌, IsTrue, refl, sym, ◌∙◌, ap, subst, arith, List, [], ◌∷◌, ◌++◌, length, get_or, Option, None, Some, ℤ, pos, neg_ℤ, ◌+ℤ◌, ◌-ℤ◌, ◌≤ℤ◌, ◌<ℤ◌, ◌⊎◌, inl, inr}
-use Rattle.std.specs.Prelude.{int_le, int_lt, nat_le}
-use Rattle.std.specs.List.{AllByRecursion, All, Contains, list_any, list_all}
+use Rattle.std.proofs.Common.{◌≡◌, ℕ, ◌==◌, Bool, true, false, cond, ◌&&◌, ◌||◌, IsTrue, refl, sym, ◌∙◌, ap, subst, arith, List, [], ◌∷◌, length, ℤ, pos, neg_ℤ, ◌+ℤ◌, ◌-ℤ◌, ◌≤ℤ◌, ◌<ℤ◌, ◌⊎◌, inl, inr}
+use Rattle.std.specs.Prelude.{int_le, int_lt}
+use Rattle.std.specs.List.{AllByRecursion, list_any, list_all}
 use Rattle.std.proofs.lemmas.Bool.Decides.{nat_tests}
 use Rattle.std.proofs.lemmas.Int.{ints}
-use Rattle.std.proofs.lemmas.List.Elements.{All-from_recursion, All-contains}
 use Rattle.symbols.specs.declared.ends.Ends.{Ends}
 use Rattle.literals.specs.declared.lit.Lit.{Lit}
 use Rattle.literals.specs.declared.lit.Lit.TheVariants.{Atom, Body, Constraint, AtMost, AtLeast}
 use Rattle.literals.specs.declared.reason.Reason.{Reason}
 use Rattle.literals.specs.declared.reason.Step.TheVariants.{Sum}
-use Rattle.literals.specs.Lits.{IsLit, implies_lit, same_lit, complement_of}
-use Rattle.literals.specs.Truths.{signed}
+use Rattle.literals.specs.Lits.{implies_lit, same_lit}
 use Rattle.literals.specs.Nogoods.{has_lit, canonical, joined, put_lit, is_before, same_place, stronger}
 use Rattle.literals.proofs.OrderLaws.{implies_trans, implies_other}
 use Rattle.literals.proofs.LitLaws.{implies_refl}
 use Rattle.literals.proofs.Puts.{all_joined}
 use Rattle.linear_normal.specs.declared.constraint.Item.{Item}
 use Rattle.linear_normal.specs.Bounds.{Bounds, bounds_named, greatest_item, least_sum, greatest_sum}
-use Rattle.linear_normal.specs.Steps.{is_one_of}
 use Rattle.trail.specs.declared.shape.Shape.{Shape}
 use Rattle.trail.specs.Implied.{ends_imply, implied}
-use Rattle.trail.specs.Assignment.{Assignment, Names, IsOf, lits_of, is_true_on}
-use Rattle.trail.proofs.ImpliedLaws.{implied_trans}
-use Rattle.sum_propagator.specs.Sums.{is_of, is_step_of, valid_sum, bounds_on}
+use Rattle.trail.specs.Assignment.{Assignment, Names}
+use Rattle.sum_propagator.specs.Sums.{is_of, is_step_of, valid_sum}
 use Rattle.sum_propagator.specs.Sides.{limit_of, total_of, side_least, side_sum}
 use Rattle.sum_propagator.specs.Reasons.{Follow, IsOrTrue, Backs, Explains}
-use Rattle.sum_propagator.proofs.Times.{least_opposite}
 use Rattle.sum_propagator.proofs.Backing.{each_as, item_least, item_opposite}
 
 -- THE OPPOSITE SUM

@@ -9,6 +9,11 @@ use Rattle.linear_normal.specs.declared.constraint.Item.TheVariants.{Value, Trut
 use Rattle.linear_normal.specs.Bounds.{Bounds, least_times, greatest_times}
 use Rattle.sum_propagator.specs.declared.sum.Totals.{Totals}
 
+-- the number of the variable or of the constraint that the item counts
+abbrev pub counted_number : Item → ℕ
+counted_number (Value x c) = x
+counted_number (Truth n c) = n
+
 abbrev pub coefficient_of : Item → ℤ
 coefficient_of (Value x c) = c
 coefficient_of (Truth n c) = c

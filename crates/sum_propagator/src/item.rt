@@ -4,7 +4,7 @@ ghost use Rattle.std.specs.Int.RustNames.{unsigned_abs};
 ghost use Rattle.trail.specs.Assignment.{IsAssignment, lower_on, upper_on};
 ghost use Rattle.linear_normal.specs.Bounds.{least_times, greatest_times};
 ghost use Rattle.sum_propagator.specs.Sums.{is_item_of, bounds_on};
-ghost use Rattle.sum_propagator.specs.Sides.{coefficient_of, low_in, high_in, low_end, high_end, at_least, at_most, signed_by, least_count, greatest_count};
+ghost use Rattle.sum_propagator.specs.Sides.{counted_number, coefficient_of, low_in, high_in, low_end, high_end, at_least, at_most, signed_by, least_count, greatest_count};
 
 use linear_normal::Item;
 use literals::Lit;
@@ -45,6 +45,14 @@ fn count_of(known: Option<bool>) -> Range
         low: i32::from(low),
         high: i32::from(high),
     }
+}
+
+/// The number of the variable or of the constraint that the item counts.
+pub(crate) fn number_in(item: Item) -> u32
+    ensures { result ≡ counted_number item }
+{
+    let (Item::Value(n, _) | Item::Truth(n, _)) = item;
+    n
 }
 
 /// What the item counts: the bounds of a variable, or the truth of a constraint as 0 and 1.

@@ -7,7 +7,7 @@ ghost use Rattle.linear_normal.specs.Bounds.{least_item, greatest_item, least_su
 ghost use Rattle.sum_propagator.specs.Sums.{are_items, is_item_of, bounds_on};
 ghost use Rattle.sum_propagator.specs.Sides.{AreSmall, limit_of, total_of};
 
-use crate::item::{greatest_of, least_of, range_on, signed};
+use crate::item::{greatest_of, least_of, number_in, range_on, signed};
 use linear_normal::Item;
 use symbols::Listed;
 use trail::Trail;
@@ -28,6 +28,17 @@ pub(crate) struct Sum {
 pub(crate) struct Totals {
     pub(crate) least: i128,
     pub(crate) greatest: i128,
+}
+
+/// Items that count different things are at most 2^33, since each names a variable or a constraint by 32
+/// bits.
+pub(crate) fn few(number: u32, items: &[Item])
+    requires { IsTrue (are_items number items.now) }
+    ensures { length items.now ≤ 2 ^ 33 }
+{
+    for item in items {
+        let _number = number_in(*item);
+    }
 }
 
 // The totals with one more item.

@@ -14,7 +14,7 @@ ghost use Rattle.sum_propagator.specs.Sides.{AreSmall, limit_of, side_sum};
 
 use crate::narrow::press;
 use crate::reason::explain;
-use crate::sum::{Sum, Totals, excluded, limit, total, totals_on};
+use crate::sum::{Sum, Totals, excluded, few, limit, total, totals_on};
 use linear_normal::Item;
 use literals::Lit;
 use propagator_core::{Outcome, Propagator};
@@ -138,12 +138,12 @@ pub struct SumPropagator {
 impl SumPropagator {
     /// The sum of the items is at most this number. It has looked at nothing.
     pub fn new(number: u32, items: Listed<Item>, most: i64) -> Result<SumPropagator, Memory>
-        requires items { IsTrue (are_items number items) }
-        requires few { length items ≤ 2 ^ 33 }
+        requires { IsTrue (are_items number items) }
         ensures meaning { IfOk result (λ p. sum_meaning p.sum.number p.sum.items p.sum.most ≡ sum_meaning number items most) }
         ensures seen { IfOk result (λ p. p.seen ≡ 0) }
         ensures stands { IfOk result (λ p. (e : Ends) → p.totals ≡ totals_after p.sum.items e []) }
     {
+        few(number, items.items());
         Ok(SumPropagator {
             sum: Sum {
                 number,

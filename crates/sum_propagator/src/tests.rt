@@ -7,7 +7,7 @@ ghost use Rattle.sum_propagator.specs.Sums.{are_items, fits_sum, totals_after};
 
 use crate::SumPropagator;
 use linear_normal::Item;
-use literals::Lit;
+use literals::{Lit, Reason, Step};
 use propagator_core::{Outcome, Propagator};
 use std::alloc::Global;
 use std::test::Fail;
@@ -47,6 +47,7 @@ fn put(sum: &SumPropagator, trail: &mut Trail, lit: Lit) -> Result<(), Fail>
     requires stands { StandsFor (λ ends entries. sum.now.totals ≡ totals_after sum.now.sum.items ends entries) sum.now.seen trail.old }
     ensures fits { IsTrue (fits_sum sum.now.sum.number sum.now.sum.items trail.new.shape) }
     ensures stands { StandsFor (λ ends entries. sum.now.totals ≡ totals_after sum.now.sum.items ends entries) sum.now.seen trail.new }
+    ensures shape { trail.new.shape ≡ trail.old.shape }
 {
     if !is_literal(trail.shape(), lit) {
         return Err(Fail::new("no literal of the shape"));
@@ -57,42 +58,68 @@ fn put(sum: &SumPropagator, trail: &mut Trail, lit: Lit) -> Result<(), Fail>
     }
 }
 
-// How a call ended.
-fn letter(outcome: Outcome) -> char {
+// Adds the literals of the reason, which is a step of this sum.
+fn tell_reason(reason: &Reason, told: &mut Vec<Lit>) -> Result<(), Fail> {
+    match &reason.step {
+        Step::Sum(1) => {}
+        _ => return Err(Fail::new("another step")),
+    }
+    for lit in reason.nogood.lits() {
+        told.push(*lit)?;
+    }
+    Ok(())
+}
+
+// How a call ended. The literals of a conflict are added.
+fn letter(outcome: Outcome, told: &mut Vec<Lit>) -> Result<char, Fail> {
     match outcome {
-        Outcome::Quiet => 'q',
-        Outcome::Narrowed => 'n',
-        Outcome::Conflict(_) => 'c',
+        Outcome::Quiet => Ok('q'),
+        Outcome::Narrowed => Ok('n'),
+        Outcome::Conflict(reason) => {
+            tell_reason(&reason, told)?;
+            Ok('c')
+        }
     }
 }
 
-// Calls it, and tells how that ended.
-fn call(alloc: Global, sum: &mut SumPropagator, trail: &mut Trail) -> Result<char, Fail>
+// Calls it, and tells how that ended. The literals of a conflict are added.
+fn call(
+    alloc: Global,
+    sum: &mut SumPropagator,
+    trail: &mut Trail,
+    told: &mut Vec<Lit>,
+) -> Result<char, Fail>
     requires fits { IsTrue (fits_sum sum.old.sum.number sum.old.sum.items trail.old.shape) }
     requires stands { StandsFor (λ ends entries. sum.old.totals ≡ totals_after sum.old.sum.items ends entries) sum.old.seen trail.old }
     ensures fits { IsTrue (fits_sum sum.new.sum.number sum.new.sum.items trail.new.shape) }
     ensures stands { StandsFor (λ ends entries. sum.new.totals ≡ totals_after sum.new.sum.items ends entries) sum.new.seen trail.new }
+    ensures shape { trail.new.shape ≡ trail.old.shape }
 {
     match sum.propagate(alloc, trail) {
-        Ok(outcome) => Ok(letter(outcome)),
+        Ok(outcome) => letter(outcome, told),
         Err(_) => Err(Fail::new("memory")),
     }
 }
 
-// Takes the entries above level 0 back.
-fn back(sum: &mut SumPropagator, trail: &mut Trail)
+// Takes the entries above the level back.
+fn back(sum: &mut SumPropagator, trail: &mut Trail, level: usize) -> Result<(), Fail>
     requires fits { IsTrue (fits_sum sum.old.sum.number sum.old.sum.items trail.old.shape) }
+    requires stands { StandsFor (λ ends entries. sum.old.totals ≡ totals_after sum.old.sum.items ends entries) sum.old.seen trail.old }
     ensures fits { IsTrue (fits_sum sum.new.sum.number sum.new.sum.items trail.new.shape) }
     ensures stands { StandsFor (λ ends entries. sum.new.totals ≡ totals_after sum.new.sum.items ends entries) sum.new.seen trail.new }
+    ensures shape { trail.new.shape ≡ trail.old.shape }
 {
-    trail.undo_to(0);
+    if level > trail.level() {
+        return Err(Fail::new("no such level"));
+    }
+    trail.undo_to(level);
     sum.undo(trail);
+    Ok(())
 }
 
 // A new sum of number 1 at a trail.
 fn start(alloc: Global, trail: &Trail, items: &[Item], most: i64) -> Result<SumPropagator, Fail>
     requires items { IsTrue (are_items 1 items.now) }
-    requires few { length items.now ≤ 2 ^ 33 }
     requires fits { IsTrue (fits_sum 1 items.now trail.now.shape) }
     ensures fits { IfOk result (λ sum. IsTrue (fits_sum sum.sum.number sum.sum.items trail.now.shape)) }
     ensures stands { IfOk result (λ sum. StandsFor (λ ends entries. sum.totals ≡ totals_after sum.sum.items ends entries) sum.seen trail.now) }
@@ -107,33 +134,50 @@ fn start(alloc: Global, trail: &Trail, items: &[Item], most: i64) -> Result<SumP
 // Adds the literal and those of its reason.
 fn tell_entry(entry: &Entry, told: &mut Vec<Lit>) -> Result<(), Fail> {
     told.push(entry.lit)?;
-    if let Why::Shown(reason) = &entry.why {
-        for lit in reason.nogood.lits() {
-            told.push(*lit)?;
-        }
+    match &entry.why {
+        Why::Shown(reason) => tell_reason(reason, told),
+        _ => Ok(()),
+    }
+}
+
+// Adds the entries from a place on, each with the literals of its reason.
+fn tell(trail: &Trail, from: usize, told: &mut Vec<Lit>) -> Result<(), Fail> {
+    for i in from..trail.length() {
+        tell_entry(trail.entry(i), told)?;
     }
     Ok(())
 }
 
-// The entries that are shown, each with the literals of its reason.
-fn tell(alloc: Global, trail: &Trail, from: usize) -> Result<Vec<Lit>, Fail> {
+// What three calls show: how they end, the literals of conflicts, and the new entries with their reasons.
+fn shown(
+    alloc: Global,
+    sum: &mut SumPropagator,
+    trail: &mut Trail,
+) -> Result<([char; 3], Vec<Lit>), Fail>
+    requires fits { IsTrue (fits_sum sum.old.sum.number sum.old.sum.items trail.old.shape) }
+    requires stands { StandsFor (λ ends entries. sum.old.totals ≡ totals_after sum.old.sum.items ends entries) sum.old.seen trail.old }
+    ensures fits { IsTrue (fits_sum sum.new.sum.number sum.new.sum.items trail.new.shape) }
+    ensures stands { StandsFor (λ ends entries. sum.new.totals ≡ totals_after sum.new.sum.items ends entries) sum.new.seen trail.new }
+    ensures shape { trail.new.shape ≡ trail.old.shape }
+{
     let mut told = Vec::new(alloc);
-    for i in from..trail.length() {
-        tell_entry(trail.entry(i), &mut told)?;
-    }
-    Ok(told)
+    let from = trail.length();
+    let first = call(alloc, sum, trail, &mut told)?;
+    let second = call(alloc, sum, trail, &mut told)?;
+    let third = call(alloc, sum, trail, &mut told)?;
+    tell(trail, from, &mut told)?;
+    Ok(([first, second, third], told))
 }
 
-// What a sum of number 1 does on a trail with these literals: how two calls end, and what it shows.
+// What a sum of number 1 shows on a trail with these literals.
 fn work(
     alloc: Global,
     ends: Ends,
     items: &[Item],
     most: i64,
     lits: &[Lit],
-) -> Result<(char, char, Vec<Lit>), Fail>
+) -> Result<([char; 3], Vec<Lit>), Fail>
     requires items { IsTrue (are_items 1 items.now) }
-    requires few { length items.now ≤ 2 ^ 33 }
     requires fits { (s : Shape) → s.constraints ≡ 3 → s.variables ≡ 3 → IsTrue (fits_sum 1 items.now s) }
 {
     let mut trail = Trail::new(alloc, shape_of(ends))?;
@@ -141,10 +185,99 @@ fn work(
     for lit in lits {
         put(&sum, &mut trail, *lit)?;
     }
-    let set = trail.length();
-    let first = call(alloc, &mut sum, &mut trail)?;
-    let second = call(alloc, &mut sum, &mut trail)?;
-    Ok((first, second, tell(alloc, &trail, set)?))
+    shown(alloc, &mut sum, &mut trail)
+}
+
+// What a search does to a trail.
+#[derive(Clone, Copy)]
+enum Move {
+    Open,
+    Set(Lit),
+    Back(usize),
+}
+
+// Makes the move.
+fn make(one: Move, sum: &mut SumPropagator, trail: &mut Trail) -> Result<(), Fail>
+    requires fits { IsTrue (fits_sum sum.old.sum.number sum.old.sum.items trail.old.shape) }
+    requires stands { StandsFor (λ ends entries. sum.old.totals ≡ totals_after sum.old.sum.items ends entries) sum.old.seen trail.old }
+    ensures fits { IsTrue (fits_sum sum.new.sum.number sum.new.sum.items trail.new.shape) }
+    ensures stands { StandsFor (λ ends entries. sum.new.totals ≡ totals_after sum.new.sum.items ends entries) sum.new.seen trail.new }
+    ensures shape { trail.new.shape ≡ trail.old.shape }
+{
+    match one {
+        Move::Open => match trail.open_level() {
+            Ok(()) => Ok(()),
+            Err(_) => Err(Fail::new("memory")),
+        },
+        Move::Set(lit) => put(sum, trail, lit),
+        Move::Back(level) => back(sum, trail, level),
+    }
+}
+
+// Sets the literal of the entry at its level.
+fn copy_entry(entry: &Entry, copy: &mut Trail) -> Result<(), Fail>
+    ensures { copy.new.shape ≡ copy.old.shape }
+{
+    for _ in copy.level()..entry.level {
+        copy.open_level()?;
+    }
+    if !is_literal(copy.shape(), entry.lit) {
+        return Err(Fail::new("no literal of the shape"));
+    }
+    copy.set(entry.lit, Why::Decision)?;
+    Ok(())
+}
+
+// A trail with the same entries, all of them decided.
+fn copied(alloc: Global, trail: &Trail) -> Result<Trail, Fail>
+    ensures { IfOk result (λ copy. copy.shape ≡ trail.now.shape) }
+{
+    let mut copy = Trail::new(alloc, trail.shape())?;
+    for i in 0..trail.length() {
+        copy_entry(trail.entry(i), &mut copy)?;
+    }
+    Ok(copy)
+}
+
+// What a new sum shows on such a trail.
+fn shown_anew(
+    alloc: Global,
+    trail: &Trail,
+    items: &[Item],
+    most: i64,
+) -> Result<([char; 3], Vec<Lit>), Fail>
+    requires items { IsTrue (are_items 1 items.now) }
+    requires fits { IsTrue (fits_sum 1 items.now trail.now.shape) }
+{
+    let mut copy = copied(alloc, trail)?;
+    let mut sum = start(alloc, &copy, items, most)?;
+    shown(alloc, &mut sum, &mut copy)
+}
+
+// Makes each move and calls the sum, which must show what a new one shows, and gives what each showed last.
+fn walk(
+    alloc: Global,
+    ends: Ends,
+    items: &[Item],
+    most: i64,
+    moves: &[Move],
+) -> Result<Vec<Lit>, Fail>
+    requires items { IsTrue (are_items 1 items.now) }
+    requires fits { (s : Shape) → s.constraints ≡ 3 → s.variables ≡ 3 → IsTrue (fits_sum 1 items.now s) }
+{
+    let mut trail = Trail::new(alloc, shape_of(ends))?;
+    let mut sum = start(alloc, &trail, items, most)?;
+    let mut all = Vec::new(alloc);
+    for one in moves {
+        make(*one, &mut sum, &mut trail)?;
+        let (calls, told) = shown_anew(alloc, &trail, items, most)?;
+        let (again, same) = shown(alloc, &mut sum, &mut trail)?;
+        if calls != again || told.as_slice() != same.as_slice() {
+            return Err(Fail::new("not as a new one"));
+        }
+        all.extend_from_slice(told.as_slice())?;
+    }
+    Ok(all)
 }
 
 #[test]
@@ -152,8 +285,8 @@ fn one_less_than_the_other(rt: HostRuntime) -> Result<(), Fail> {
     let items = [Item::Value(1, 1), Item::Value(2, -1)];
     let ends = Ends { min: 0, max: 1 };
     let lits = [Lit::Constraint(1, true)];
-    let (first, second, told) = work(rt.alloc(), ends, &items, -1, &lits)?;
-    assert_eq!(rt; (first, second), ('n', 'q'));
+    let (calls, told) = work(rt.alloc(), ends, &items, -1, &lits)?;
+    assert_eq!(rt; calls, ['n', 'q', 'q']);
     let wanted = [
         Lit::AtMost(1, 0),
         Lit::Constraint(1, true),
@@ -171,8 +304,8 @@ fn false_sum_is_the_opposite_one(rt: HostRuntime) -> Result<(), Fail> {
     let items = [Item::Value(1, 2), Item::Value(2, 3)];
     let ends = Ends { min: 0, max: 9 };
     let lits = [Lit::Constraint(1, false), Lit::AtMost(1, 4)];
-    let (first, second, told) = work(rt.alloc(), ends, &items, 10, &lits)?;
-    assert_eq!(rt; (first, second), ('n', 'q'));
+    let (calls, told) = work(rt.alloc(), ends, &items, 10, &lits)?;
+    assert_eq!(rt; calls, ['n', 'q', 'q']);
     let wanted = [
         Lit::AtLeast(2, 1),
         Lit::Constraint(1, false),
@@ -188,8 +321,8 @@ fn open_sum_becomes_false(rt: HostRuntime) -> Result<(), Fail> {
     let items = [Item::Value(1, 1), Item::Truth(2, 5)];
     let ends = Ends { min: 0, max: 9 };
     let lits = [Lit::Constraint(2, true)];
-    let (first, second, told) = work(rt.alloc(), ends, &items, 4, &lits)?;
-    assert_eq!(rt; (first, second), ('n', 'q'));
+    let (calls, told) = work(rt.alloc(), ends, &items, 4, &lits)?;
+    assert_eq!(rt; calls, ['n', 'q', 'q']);
     let wanted = [
         Lit::Constraint(1, false),
         Lit::Constraint(1, true),
@@ -203,8 +336,8 @@ fn open_sum_becomes_false(rt: HostRuntime) -> Result<(), Fail> {
 fn truths_and_widest_coefficients(rt: HostRuntime) -> Result<(), Fail> {
     let items = [Item::Truth(2, i64::MIN), Item::Value(3, i64::MAX)];
     let lits = [Lit::Constraint(1, true), Lit::AtLeast(3, 1)];
-    let (first, second, told) = work(rt.alloc(), Ends::widest(), &items, 0, &lits)?;
-    assert_eq!(rt; (first, second), ('n', 'q'));
+    let (calls, told) = work(rt.alloc(), Ends::widest(), &items, 0, &lits)?;
+    assert_eq!(rt; calls, ['n', 'q', 'q']);
     let wanted = [
         Lit::Constraint(2, true),
         Lit::Constraint(1, true),
@@ -213,6 +346,123 @@ fn truths_and_widest_coefficients(rt: HostRuntime) -> Result<(), Fail> {
         Lit::AtMost(3, 1),
         Lit::Constraint(1, true),
         Lit::AtLeast(3, 2),
+    ];
+    assert_eq!(rt; told.as_slice(), wanted.as_slice());
+    Ok(())
+}
+
+#[test]
+fn open_sum_becomes_true(rt: HostRuntime) -> Result<(), Fail> {
+    let items = [Item::Value(1, 2), Item::Value(2, -1)];
+    let ends = Ends { min: 0, max: 9 };
+    let lits = [Lit::AtMost(1, 3), Lit::AtLeast(2, 2)];
+    let (calls, told) = work(rt.alloc(), ends, &items, 4, &lits)?;
+    assert_eq!(rt; calls, ['n', 'q', 'q']);
+    let wanted = [
+        Lit::Constraint(1, true),
+        Lit::Constraint(1, false),
+        Lit::AtMost(1, 3),
+        Lit::AtLeast(2, 2),
+    ];
+    assert_eq!(rt; told.as_slice(), wanted.as_slice());
+    Ok(())
+}
+
+#[test]
+fn open_sum_stays_open(rt: HostRuntime) -> Result<(), Fail> {
+    let items = [Item::Value(1, 2), Item::Value(2, -1)];
+    let ends = Ends { min: 0, max: 9 };
+    let lits = [Lit::AtMost(1, 3), Lit::AtLeast(2, 1)];
+    let (calls, told) = work(rt.alloc(), ends, &items, 4, &lits)?;
+    assert_eq!(rt; calls, ['q', 'q', 'q']);
+    assert_eq!(rt; told.len(), 0);
+    Ok(())
+}
+
+#[test]
+fn more_than_the_number_is_a_conflict(rt: HostRuntime) -> Result<(), Fail> {
+    let items = [Item::Value(1, 3), Item::Value(2, -2), Item::Truth(3, 4)];
+    let ends = Ends { min: 0, max: 9 };
+    let lits = [
+        Lit::Constraint(1, true),
+        Lit::AtLeast(1, 4),
+        Lit::AtMost(2, 5),
+        Lit::Constraint(3, true),
+    ];
+    let (calls, mut told) = work(rt.alloc(), ends, &items, 5, &lits)?;
+    assert_eq!(rt; calls, ['c', 'c', 'c']);
+    let wanted = [
+        Lit::Constraint(1, true),
+        Lit::Constraint(3, true),
+        Lit::AtLeast(1, 4),
+        Lit::AtMost(2, 5),
+    ];
+    told.truncate(4);
+    assert_eq!(rt; told.as_slice(), wanted.as_slice());
+    Ok(())
+}
+
+// 2 v1 - 3 v2 + 5 c2 <= 2: each entry stands before the literals of its reason.
+#[test]
+fn three_levels_and_back(rt: HostRuntime) -> Result<(), Fail> {
+    let items = [Item::Value(1, 2), Item::Value(2, -3), Item::Truth(2, 5)];
+    let ends = Ends { min: 0, max: 9 };
+    let moves = [
+        Move::Set(Lit::AtMost(2, 5)),
+        Move::Open,
+        Move::Set(Lit::Constraint(1, true)),
+        Move::Open,
+        Move::Set(Lit::AtMost(2, 2)),
+        Move::Open,
+        Move::Set(Lit::AtLeast(1, 3)),
+        Move::Back(2),
+        Move::Set(Lit::Constraint(2, true)),
+        Move::Back(1),
+        Move::Set(Lit::AtLeast(1, 7)),
+        Move::Back(0),
+        Move::Set(Lit::AtLeast(1, 9)),
+    ];
+    let told = walk(rt.alloc(), ends, &items, 2, &moves)?;
+    let wanted = [
+        Lit::AtMost(1, 8),
+        Lit::Constraint(1, true),
+        Lit::AtLeast(1, 9),
+        Lit::AtMost(2, 5),
+        Lit::AtMost(1, 4),
+        Lit::Constraint(1, true),
+        Lit::AtLeast(1, 5),
+        Lit::AtMost(2, 2),
+        Lit::AtLeast(2, 2),
+        Lit::Constraint(1, true),
+        Lit::AtLeast(1, 3),
+        Lit::AtMost(2, 1),
+        Lit::Constraint(2, false),
+        Lit::Constraint(1, true),
+        Lit::Constraint(2, true),
+        Lit::AtLeast(1, 3),
+        Lit::AtMost(2, 2),
+        Lit::AtMost(1, 1),
+        Lit::Constraint(1, true),
+        Lit::Constraint(2, true),
+        Lit::AtLeast(1, 2),
+        Lit::AtMost(2, 2),
+        Lit::AtLeast(2, 1),
+        Lit::Constraint(1, true),
+        Lit::Constraint(2, true),
+        Lit::AtMost(2, 0),
+        Lit::AtLeast(2, 4),
+        Lit::Constraint(1, true),
+        Lit::AtLeast(1, 7),
+        Lit::AtMost(2, 3),
+        Lit::Constraint(2, false),
+        Lit::Constraint(1, true),
+        Lit::Constraint(2, true),
+        Lit::AtLeast(1, 7),
+        Lit::AtMost(2, 5),
+        Lit::Constraint(1, false),
+        Lit::Constraint(1, true),
+        Lit::AtLeast(1, 9),
+        Lit::AtMost(2, 5),
     ];
     assert_eq!(rt; told.as_slice(), wanted.as_slice());
     Ok(())

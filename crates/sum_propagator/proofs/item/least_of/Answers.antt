@@ -1,8 +1,6 @@
-use Rattle.std.proofs.Common.{rules, arith, ◌≡◌, ◌≤◌, ◌*◌, ◌^◌, ◌<ℤ◌, ◌*ℤ◌, pos, FitsSigned, w32, subst, sym, ap, ◌∙◌}
+use Rattle.std.proofs.Common.{rules, arith, ◌≡◌, ◌<ℤ◌, ◌*ℤ◌, pos, FitsSigned, w32, sym}
 use Rattle.std.specs.Int.{w128}
-use Rattle.std.specs.Int.RustNames.{unsigned_abs}
-use Rattle.std.proofs.lemmas.Int.{ints, to_z-of_z, unsigned_abs-mul}
-use Rattle.linear_normal.specs.Bounds.{least_times}
+use Rattle.std.proofs.lemmas.Int.{ints, to_z-of_z}
 use Rattle.sum_propagator.proofs.Times.{least_is_down, product_small}
 use Rattle.sum_propagator.proofs.item.least_of.Goals as goal
 

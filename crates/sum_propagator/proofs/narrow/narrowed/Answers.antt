@@ -1,9 +1,7 @@
-use Rattle.std.proofs.Common.{rules, arith, ap, subst, sym, FitsSigned, w32, ◌≡◌, ◌≤◌, ◌*◌, ◌<◌, ◌+◌, ◌⊎◌, inl, inr, pos, ◌<ℤ◌, ◌+ℤ◌, ◌-ℤ◌, refl}
-use Rattle.std.specs.Int.{w128}
-use Rattle.std.specs.Int.RustNames.{unsigned_abs}
-use Rattle.std.proofs.lemmas.Int.{ints, to_z-of_z}
+use Rattle.std.proofs.Common.{rules, arith, subst, sym, inl, inr}
+use Rattle.std.proofs.lemmas.Int.{ints}
 use Rattle.literals.specs.declared.lit.Lit.{Lit}
-use Rattle.sum_propagator.specs.Sides.{Narrows, at_most, at_least}
+use Rattle.sum_propagator.specs.Sides.{Narrows}
 use Rattle.sum_propagator.proofs.Times.{rest_within, lowered, raised, below}
 use Rattle.sum_propagator.proofs.narrow.narrowed.Goals as goal
 

@@ -1,8 +1,7 @@
-use Rattle.std.proofs.Common.{rules, pos}
 use Rattle.literals.specs.declared.lit.Lit.TheVariants.{Constraint}
-use Rattle.trail.proofs.GrowthLaws.{grows_on, grows_none, grows_assignment}
+use Rattle.trail.proofs.GrowthLaws.{grows_on, grows_assignment}
 use Rattle.propagator_core.specs.Shown.{IsShown}
-use Rattle.sum_propagator.specs.Sums.{bounds_on, valid_sum}
+use Rattle.sum_propagator.specs.Sums.{valid_sum}
 use Rattle.sum_propagator.specs.Sides.{limit_of}
 use Rattle.sum_propagator.proofs.Narrowing.{rests_more, on_grows, slack_grows, fits_grows}
 use Rattle.sum_propagator.proofs.narrow.press.Goals as goal

@@ -1,6 +1,5 @@
 use Rattle.std.proofs.Common.{◌≡◌, ◌<◌, ℕ, get_or}
 use Rattle.linear_normal.specs.declared.constraint.Item.{Item}
-use Rattle.trail.specs.Assignment.{IsAssignment}
 use Rattle.trail.specs.Growth.{Grows}
 use Rattle.propagator_core.specs.Shown.{IsShown}
 use Rattle.sum_propagator.specs.Sums.{bounds_on, valid_sum}

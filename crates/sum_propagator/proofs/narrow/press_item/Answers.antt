@@ -1,4 +1,4 @@
-use Rattle.std.proofs.Common.{◌≡◌, subst, sym}
+use Rattle.std.proofs.Common.{subst, sym}
 use Rattle.trail.proofs.AssignmentLaws.{true-truth}
 use Rattle.literals.specs.declared.lit.Lit.{Lit}
 use Rattle.literals.specs.declared.lit.Lit.TheVariants.{Constraint}

@@ -1,5 +1,3 @@
-use Rattle.std.proofs.Common.{rules, List, get_or, ◌≡◌}
-use Rattle.linear_normal.specs.declared.constraint.Item.{Item}
 use Rattle.sum_propagator.proofs.Backing.{backs_instead, at_place, back_ok}
 use Rattle.sum_propagator.proofs.reason.back_at.Goals as goal
 

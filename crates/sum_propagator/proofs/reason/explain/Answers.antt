@@ -1,4 +1,4 @@
-use Rattle.std.proofs.Common.{rules, ◌≡◌, ◌∷◌, [], List, subst, sym, length, refl, ap, ◌∙◌}
+use Rattle.std.proofs.Common.{rules, ◌≡◌, ◌∷◌, [], List, subst, length, refl}
 use Rattle.literals.specs.declared.lit.Lit.{Lit}
 use Rattle.literals.specs.declared.lit.Lit.TheVariants.{Constraint}
 use Rattle.literals.specs.declared.reason.Step.TheVariants.{Sum}

@@ -1,6 +1,6 @@
-use Rattle.std.proofs.Common.{rules, arith, ◌≡◌, ◌^◌, ◌≤◌, ◌+ℤ◌, ℤ, ap, FitsSigned, w32, w64}
+use Rattle.std.proofs.Common.{rules, ◌+ℤ◌, ap, FitsSigned}
 use Rattle.std.specs.Int.{w128}
-use Rattle.std.proofs.lemmas.Int.{ints, to_z-of_z}
+use Rattle.std.proofs.lemmas.Int.{to_z-of_z}
 use Rattle.sum_propagator.specs.Sums.{bounds_on}
 use Rattle.sum_propagator.proofs.Backing.{one_least, one_greatest}
 use Rattle.sum_propagator.proofs.sum.with_item.Goals as goal

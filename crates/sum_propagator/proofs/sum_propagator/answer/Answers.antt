@@ -1,8 +1,8 @@
-use Rattle.std.proofs.Common.{rules, ◌≡◌, ◌≤ℤ◌, ◌<ℤ◌, ◌∙◌, sym, subst, ℤ, true, false, FitsSigned}
+use Rattle.std.proofs.Common.{rules, ◌≤ℤ◌, ◌<ℤ◌, ◌∙◌, sym, subst, ℤ, true, false, FitsSigned}
 use Rattle.std.specs.Int.{w128}
 use Rattle.std.proofs.lemmas.Int.{to_z-of_z}
 use Rattle.sum_propagator.specs.Sums.{bounds_on}
-use Rattle.sum_propagator.specs.Sides.{limit_of, total_of, side_sum}
+use Rattle.sum_propagator.specs.Sides.{limit_of}
 use Rattle.sum_propagator.proofs.Validity.{side-total}
 use Rattle.sum_propagator.proofs.Settling.{quiet_open}
 use Rattle.sum_propagator.proofs.sum_propagator.answer.Goals as goal

@@ -1,4 +1,4 @@
-use Rattle.std.proofs.Common.{rules, arith, ◌≡◌, ◌<◌, ◌+◌, ◌+ℤ◌, ◌<ℤ◌, pos, subst, sym, ◌∙◌, ap, FitsSigned, ℤ, ℕ, length}
+use Rattle.std.proofs.Common.{rules, arith, ◌≡◌, ◌<◌, ◌+◌, ◌+ℤ◌, ◌<ℤ◌, pos, subst, sym, ◌∙◌, FitsSigned, ℕ, length}
 use Rattle.std.specs.Int.{w128}
 use Rattle.std.proofs.lemmas.Int.{ints, to_z-of_z}
 use Rattle.literals.specs.declared.lit.Lit.TheVariants.{Constraint}
@@ -9,7 +9,7 @@ use Rattle.propagator_core.specs.Quiet.{IsQuiet}
 use Rattle.sum_propagator.specs.Sums.{valid_sum, sum_meaning, bounds_on}
 use Rattle.sum_propagator.specs.Sides.{limit_of, side_sum}
 use Rattle.sum_propagator.specs.Reasons.{Explains}
-use Rattle.sum_propagator.proofs.Settling.{conflict_here, quiet_here, above_here, sum_is, slack_is}
+use Rattle.sum_propagator.proofs.Settling.{conflict_here, quiet_here, above_here, sum_is}
 use Rattle.sum_propagator.proofs.sum_propagator.decided.Goals as goal
 
 pub returns-then-total-limit-clause-answer : goal.returns-then-total-limit-clause-answer

@@ -1,4 +1,3 @@
-use Rattle.std.proofs.Common.{rules}
 use Rattle.propagator_core.specs.Shown.{IsShown}
 use Rattle.sum_propagator.specs.Sums.{valid_sum}
 use Rattle.sum_propagator.proofs.Settling.{stands_now}
