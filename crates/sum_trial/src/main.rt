@@ -1,0 +1,43 @@
+//! What `bench/sums.sh` takes the time of.
+//!
+//! `chain N` narrows N sums of two items to their end, each of which keeps a variable 10 below the next one.
+//! `wide N` narrows one sum of N items N times. A line says how many entries the trail has then.
+#![tactic(auto)]
+
+mod chain;
+mod starting;
+mod wide;
+
+use chain::narrow_chain;
+use std::alloc::Global;
+use std::env;
+use symbols::Memory;
+use wide::narrow_wide;
+
+/// How many entries there are after the work that the words name, with no more than 100,000 sums or items.
+fn entries_of(alloc: Global, words: &[String]) -> Result<usize, Memory> {
+    match words {
+        [kind, count] => {
+            let count = count.parse().unwrap_or(1u32).clamp(1, 100_000);
+            if kind.as_str() == "chain" {
+                narrow_chain(alloc, count)
+            } else {
+                narrow_wide(alloc, count)
+            }
+        }
+        _ => Ok(0),
+    }
+}
+
+fn main(rt: HostRuntime) -> anyhow::Result<()> {
+    let mut words = Vec::new(rt.alloc());
+    for word in env::args(&rt)? {
+        words.push(word)?;
+    }
+    let entries = match words.as_slice() {
+        [_, rest @ ..] => entries_of(rt.alloc(), rest).unwrap_or(0),
+        [] => 0,
+    };
+    println!(rt; "{entries}")?;
+    Ok(())
+}
