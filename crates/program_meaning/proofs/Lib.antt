@@ -22,6 +22,13 @@ pub mod Values
 pub mod Finding
 pub mod Leaves
 pub mod Rows
+pub mod Tower
+pub mod RowCounts
+pub mod TupleSets
+pub mod CollectedValue
+pub mod CollectedForms
+pub mod SoundTuples
+pub mod SoundRelations
 pub mod RowCanonical
 pub mod SafeSteps
 pub mod Meeting

@@ -12,7 +12,7 @@ use Rattle.syntax_tree.specs.Outcome.{Outcome, IsSymbol}
 use Rattle.syntax_tree.specs.Value.{value_of}
 use Rattle.ground_model.specs.Members.{IsMember}
 use Rattle.program_meaning.specs.Read.{PlainLiteral, PlainAtom, PlainCompare, ReadLiteral, ReadPlain, ReadChoice, ReadHead, ReadAtom, ReadChoose, ReadRule, plains}
-use Rattle.program_meaning.specs.Substitution.{Value, SymbolValue, Key, substituted}
+use Rattle.program_meaning.specs.Substitution.{Value, SymbolValue, Key, worth_of, substituted}
 use Rattle.program_meaning.specs.Instance.{bound_in, bound_in_choice, is_bound, plain_stands, literal_stands, IsInstance, IsChoiceInstance, IsPossible, IsRelevantOf}
 use Rattle.program_meaning.specs.Theory.{is_defined, is_over}
 use Rattle.program_meaning.specs.Outside.{literal_over, head_over, Overflow, RuleOver, IsOutside, IsFirstOutside}
@@ -153,32 +153,32 @@ zero_possible = (1, (zero_fact, inl refl, [], record { each = refl; head = ap is
 
 -- ---- p(2147483647). q(1..3). r :- p(Y), q(V), V = Y+1. has three instances of its third rule, each outside by Overflow
 
-abbrev w : Term
+abbrev pub w : Term
 w = t.Variable 2
 
 abbrev pub q : Term → Term
 q term = t.Function (codes "q") (term ∷ [])
 
-abbrev big_fact : ReadRule
+abbrev pub big_fact : ReadRule
 big_fact = rule (ReadAtom (p (n 2147483647))) [] []
 
-abbrev few_rule : ReadRule
+abbrev pub few_rule : ReadRule
 few_rule = rule (ReadAtom (q v)) (ReadPlain (PlainCompare v r.Equal (t.Interval (n 1) (n 3))) ∷ []) (1 ∷ [])
 
 abbrev sum_body : List ReadLiteral
 sum_body = ReadPlain (PlainAtom (p v) true) ∷ ReadPlain (PlainAtom (q w) true) ∷ ReadPlain (PlainCompare w r.Equal (plus v (n 1))) ∷ []
 
-abbrev sum_rule : ReadRule
+abbrev pub sum_rule : ReadRule
 sum_rule = rule (ReadAtom (t.Function (codes "r") [])) sum_body (1 ∷ 2 ∷ [])
 
-abbrev sum_program : List ReadRule
+abbrev pub sum_program : List ReadRule
 sum_program = big_fact ∷ few_rule ∷ sum_rule ∷ []
 
+pub big_value : (bound : List Outcome) → value_of bound (p (n 2147483647)) ≡ IsSymbol (atom (codes "p") 2147483647)
+big_value bound = simp forms
+
 big_possible : IsPossible sum_program (atom (codes "p") 2147483647)
-big_possible = (1, (big_fact, inl refl, [], record { each = refl; head = ap is_defined (is_fact []); body = refl }, is_fact [], tt))
-  where
-    is_fact : (bound : List Outcome) → value_of bound (p (n 2147483647)) ≡ IsSymbol (atom (codes "p") 2147483647)
-    is_fact bound = simp forms
+big_possible = (1, (big_fact, inl refl, [], record { each = refl; head = ap is_defined (big_value []); body = refl }, big_value [], tt))
 
 pub ruleset places = (
   Layers.occurs-Number,
@@ -189,13 +189,13 @@ pub ruleset places = (
   Layers.occurs-Part,
 )
 
-few_globals : globals few_rule ≡ 1 ∷ []
+pub few_globals : globals few_rule ≡ 1 ∷ []
 few_globals = simp places
 
-few_bound : (k : ℕ) → bound_in few_rule (number k ∷ []) ≡ IsSymbol (Number (pos k)) ∷ []
-few_bound k = ap (λ gs. substituted 1 gs (number k ∷ [])) few_globals
+pub few_bound : (x : Value) → bound_in few_rule (x ∷ []) ≡ worth_of x ∷ []
+few_bound x = ap (λ gs. substituted 1 gs (x ∷ [])) few_globals
 
-sum_globals : globals sum_rule ≡ 1 ∷ 2 ∷ []
+pub sum_globals : globals sum_rule ≡ 1 ∷ 2 ∷ []
 sum_globals = simp places
 
 -- ---- its instances: q(1), q(2) and q(3) are possible, and each gives one, in which V = Y+1 is over
@@ -203,8 +203,8 @@ sum_globals = simp places
 abbrev is_few : ℕ → Bool
 is_few k = int_le (pos 1) (pos k) && int_le (pos k) (pos 3)
 
-few_value : (k : ℕ) → value_of (bound_in few_rule (number k ∷ [])) (q v) ≡ IsSymbol (atom (codes "q") k)
-few_value k = ap (λ b. value_of b (q v)) (few_bound k) ∙ at k
+pub few_value : (k : ℕ) → value_of (bound_in few_rule (number k ∷ [])) (q v) ≡ IsSymbol (atom (codes "q") k)
+few_value k = ap (λ b. value_of b (q v)) (few_bound (number k)) ∙ at k
   where
     at : (k : ℕ) → value_of (IsSymbol (Number (pos k)) ∷ []) (q v) ≡ IsSymbol (atom (codes "q") k)
     at k = simp forms
@@ -213,7 +213,7 @@ few_stands : (k : ℕ) → is_few k ≡ true → IsInstance few_rule (number k �
 few_stands k h = record {
   each = sym (ap length few_globals);
   head = ap is_defined (few_value k);
-  body = ap (λ b. list_all (literal_stands (plains few_rule.body) b) few_rule.body) (few_bound k) ∙ ap (λ c. may_hold c && true) (within k) ∙ and_intro (is_few k) true h refl;
+  body = ap (λ b. list_all (literal_stands (plains few_rule.body) b) few_rule.body) (few_bound (number k)) ∙ ap (λ c. may_hold c && true) (within k) ∙ and_intro (is_few k) true h refl;
 }
   where
     within : (k : ℕ) → comparison (plains few_rule.body) (IsSymbol (Number (pos k)) ∷ []) v r.Equal (t.Interval (n 1) (n 3)) ≡ IsTruth (is_few k)
@@ -222,7 +222,7 @@ few_stands k h = record {
 few_possible : (k : ℕ) → is_few k ≡ true → IsPossible sum_program (atom (codes "q") k)
 few_possible k h = (1, (few_rule, inr (inl refl), number k ∷ [], few_stands k h, few_value k, (tt, tt)))
 
-abbrev sum_values : ℕ → List Value
+abbrev pub sum_values : ℕ → List Value
 sum_values k = number 2147483647 ∷ number k ∷ []
 
 abbrev sum_worths : ℕ → List Outcome
@@ -242,7 +242,7 @@ sum_stands k = record {
     all : (k : ℕ) → list_all (literal_stands (plains sum_body) (sum_worths k)) sum_body ≡ true
     all k = simp forms
 
-sum_relevant : (k : ℕ) → is_few k ≡ true → IsRelevantOf sum_program (key 2 (sum_values k)) sum_rule
+pub sum_relevant : (k : ℕ) → is_few k ≡ true → IsRelevantOf sum_program (key 2 (sum_values k)) sum_rule
 sum_relevant k h = record {
   place = refl;
   stands = sum_stands k;
@@ -258,7 +258,7 @@ sum_relevant k h = record {
     second : (k : ℕ) → value_of (sum_worths k) (q w) ≡ IsSymbol (atom (codes "q") k)
     second k = simp forms
 
-sum_outside : (ends : Ends) (k : ℕ) → is_few k ≡ true → IsOutside sum_program ends (key 2 (sum_values k)) Overflow
+pub sum_outside : (ends : Ends) (k : ℕ) → is_few k ≡ true → IsOutside sum_program ends (key 2 (sum_values k)) Overflow
 unfolding fitted
 sum_outside ends k h = (
   sum_rule,

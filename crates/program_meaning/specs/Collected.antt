@@ -71,14 +71,14 @@ pub record Collected : Type 0 where
   pub large : Bool
   pub form : LinearOf Symbol
 
--- a symbol's value, whether it is not linear, and its form
+-- a symbol's value, whether it is not linear, and its form, which has to be small
 abbrev pub leaf : Symbol → Bool → LinearOf Symbol → Collected
 leaf symbol bent form = record {
   value = IsSymbol symbol;
   undefined = false;
   over = false;
   not_linear = bent;
-  large = false;
+  large = not (is_small_form form);
   form = form;
 }
 

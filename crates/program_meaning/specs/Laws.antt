@@ -1,29 +1,43 @@
 -- Laws above the definitions.
-use Rattle.std.specs.List.{AllByRecursion}
-use Rattle.std.specs.Prelude.{◌≡◌, ◌↔◌, ◌≤◌, ◌<◌, ℕ, Bool, true, ℤ, List, length}
+use Rattle.std.specs.List.{AllByRecursion, list_all}
+use Rattle.std.specs.Prelude.{◌≡◌, ◌⊎◌, ◌↔◌, ◌≤◌, ◌<◌, ℕ, Bool, true, false, ℤ, List, ◌++◌, length, map, nat_le, Some}
+use Rattle.symbols.specs.declared.ends.Ends.{Ends}
 use Rattle.symbols.specs.Symbol.{Symbol}
+use Rattle.syntax_tree.specs.declared.literal.TheoryName.TheVariants as name
+use Rattle.syntax_tree.specs.declared.term.Term.{Term}
+use Rattle.syntax_tree.specs.Outcome.{Outcome}
+use Rattle.syntax_tree.specs.Value as ordinary
 use Rattle.ground_model.specs.declared.answer.Answer.{Answer}
+use Rattle.ground_model.specs.declared.linear.Linear.{Linear}
+use Rattle.ground_model.specs.declared.linear.Place.{Place}
+use Rattle.ground_model.specs.declared.linear.Relation.{Relation}
 use Rattle.ground_model.specs.declared.program.GroundProgram.{GroundProgram}
 use Rattle.ground_model.specs.Answers.{IsAnswerOf}
 use Rattle.ground_model.specs.Model.{IsModel}
 use Rattle.ground_model.specs.Objective.{objective_of}
 use Rattle.ground_model.specs.Members.{IsMember, IsApart, IsListOf}
-use Rattle.ground_model.specs.Rule.{PlaceOf}
+use Rattle.ground_model.specs.Rule.{LinearOf, PlaceOf, RelationOf}
+use Rattle.ground_model.specs.Sound.{most, first_places, has_few_variables, are_known, are_different, is_sound_linear, is_sound_place, is_sound_relation, are_sound_values}
+use Rattle.ground_model.specs.Truth.{value_of}
+use Rattle.ground_model.specs.View.{linear_of, place_of, relation_of}
 use Rattle.symbols.specs.Order.{symbol_cmp}
-use Rattle.program_meaning.specs.Read.{PlainLiteral, ReadTheory, ReadRule, ReadProgram, plains}
-use Rattle.program_meaning.specs.Ascending.{IsOrderedListOf, Exceeds}
+use Rattle.program_meaning.specs.Read.{PlainLiteral, ReadElement, ReadTheory, ReadChoice, ReadRule, ReadProgram, plains}
+use Rattle.program_meaning.specs.Ascending.{Ascends, IsOrderedListOf, Exceeds}
 use Rattle.program_meaning.specs.Substitution.{Value, Key, substituted}
-use Rattle.program_meaning.specs.Theory.{place_cmp}
-use Rattle.program_meaning.specs.Instance.{bound_in, IsPossible, IsRelevantOf}
-use Rattle.program_meaning.specs.Tuples.{IsTuple}
-use Rattle.program_meaning.specs.Ground.{IsRuleOfProgram}
-use Rattle.program_meaning.specs.Canonical.{IsVariable, GroundView, view_of, IsCanonical}
+use Rattle.program_meaning.specs.Collected.{is_small_form, collected}
+use Rattle.program_meaning.specs.Exact.{exact}
+use Rattle.program_meaning.specs.Theory.{HasForm, place_cmp}
+use Rattle.program_meaning.specs.Instance.{bound_in, bound_in_element, bound_in_choice, IsPossible, IsRelevantOf, IsRelevantChoice, IsRelevantElement}
+use Rattle.program_meaning.specs.Tuples.{IsTuple, OccursInForm}
+use Rattle.program_meaning.specs.Ground.{RelationAs, IsRuleOfProgram}
+use Rattle.program_meaning.specs.Canonical.{linear_numbered, place_numbered, relation_numbered, IsVariable, GroundView, view_of, IsCanonical}
 use Rattle.program_meaning.specs.Count.{Counted, IsCounted, ExceedsLimit}
+use Rattle.program_meaning.specs.Outside.{IsVariableIn, HasLargeTotal, HasLargeValue}
 use Rattle.program_meaning.specs.Predicates.{Predicate, HasStep, GivesStep, IsRecursive}
 use Rattle.program_meaning.specs.Levels.{DecidesDependence, level, IsIn, IsClosedUnder, ReadsAtom}
-use Rattle.program_meaning.specs.Safety.{IsBoundInBody}
-use Rattle.program_meaning.specs.Search.{Node, Step, IsOf, IsPrepared, AreReady, searched, Finds, start, none_bound, bound_after_all, AreNumbered, IsHeld, IsStepOf, HasItsVariables, Meets}
-use Rattle.program_meaning.specs.Variables.{globals}
+use Rattle.program_meaning.specs.Safety.{IsBoundInBody, IsBoundInCondition}
+use Rattle.program_meaning.specs.Search.{Node, Step, IsOf, IsPrepared, AreReady, searched, Finds, start, none_bound, bound_after_all, AreNumbered, IsHeld, IsStepOf, HasListed, HasItsVariables, globals_bound, start_with, Meets}
+use Rattle.program_meaning.specs.Variables.{globals, element_locals, choice_locals}
 use Rattle.program_meaning.specs.Models.{IsModelOf, IsSameWorld, IsShaped, IsObjective}
 
 -- there is one canonical ground program: two that a program has are equal, each id read as its symbol
@@ -137,3 +151,120 @@ MeetsLaw =
     (rules : List ReadRule) (key : Key) (rule : ReadRule) → IsRelevantOf rules key rule → (atoms : List Symbol) → IsListOf (IsPossible rules) atoms
     → (steps : List Step) → AllByRecursion (IsStepOf (plains rule.body)) steps
     → AllByRecursion (Meets (plains rule.body) atoms (bound_in rule key.values)) steps
+
+-- a condition that binds these variables has steps for a search that are its own, ready in their order where the global variables are
+-- bound, and bind these variables, too
+abbrev pub SafeConditionLaw : Type 0
+SafeConditionLaw =
+    (rule : ReadRule) (condition : List PlainLiteral) (locals : List ℕ) → HasItsVariables rule → HasListed rule.order condition
+    → ((n : ℕ) → IsMember locals n → IsMember rule.order n) → AllByRecursion (IsBoundInCondition rule condition) locals
+    → (steps : List Step) × AllByRecursion (IsStepOf condition) steps × AreReady (plains rule.body ++ condition) (length rule.order) (globals_bound rule) steps
+    × ((n : ℕ) → (IsMember locals n ⊎ (globals_bound rule n ≡ true)) → bound_after_all steps (globals_bound rule) n ≡ true)
+
+-- a search for the instances of an element may start where the global variables have the values of an instance of its rule
+abbrev pub StartWithLaw : Type 0
+StartWithLaw =
+    (rule : ReadRule) (values : List Value) → AreNumbered (length rule.order) rule.order → length values ≡ length (globals rule)
+    → IsPrepared (length rule.order) (globals_bound rule) (start_with (length rule.order) (globals rule) values)
+
+-- the start stands for what the variables are worth in each instance of an element
+abbrev pub StartsLaw : Type 0
+StartsLaw =
+    (count : ℕ) (variables locals : List ℕ) (values more : List Value) → IsOf (start_with count variables values) (substituted count (variables ++ locals) (values ++ more))
+
+-- a rule's global variables and an element's local ones are different variables, each once
+abbrev pub LocalsLaw : Type 0
+LocalsLaw =
+    (rule : ReadRule) → AreNumbered (length rule.order) rule.order
+    → ((element : ReadElement) → AreNumbered (length rule.order) (globals rule ++ element_locals rule element))
+    × ((element : ReadChoice) → AreNumbered (length rule.order) (globals rule ++ choice_locals rule element))
+
+-- a node at which they are all bound stands for one instance of the element under the values of the global ones
+abbrev pub LeafElementLaw : Type 0
+LeafElementLaw =
+    (count : ℕ) (variables locals : List ℕ) (node : Node) (values one other : List Value) → AreNumbered count (variables ++ locals)
+    → length values ≡ length variables → length one ≡ length locals → length other ≡ length locals → AllByRecursion (IsHeld node.binding) (variables ++ locals)
+    → IsOf node (substituted count (variables ++ locals) (values ++ one)) → IsOf node (substituted count (variables ++ locals) (values ++ other)) → one ≡ other
+
+-- a relevant instance of an element of a theory atom meets all steps that are its condition's own, over the possible atoms
+abbrev pub MeetsElementLaw : Type 0
+MeetsElementLaw =
+    (rules : List ReadRule) (rule : ReadRule) (values : List Value) (theory : ReadTheory) (key : Key) (element : ReadElement)
+    → IsRelevantElement (IsPossible rules) rule values theory key element → (atoms : List Symbol) → IsListOf (IsPossible rules) atoms
+    → (steps : List Step) → AllByRecursion (IsStepOf element.condition) steps
+    → AllByRecursion (Meets (plains rule.body ++ element.condition) atoms (bound_in_element rule values element key.values)) steps
+
+-- so does one of an element of a choice
+abbrev pub MeetsChoiceLaw : Type 0
+MeetsChoiceLaw =
+    (rules : List ReadRule) (rule : ReadRule) (values : List Value) (elements : List ReadChoice) (key : Key) (element : ReadChoice)
+    → IsRelevantChoice (IsPossible rules) rule values elements key element → (atoms : List Symbol) → IsListOf (IsPossible rules) atoms
+    → (steps : List Step) → AllByRecursion (IsStepOf element.condition) steps
+    → AllByRecursion (Meets (plains rule.body ++ element.condition) atoms (bound_in_choice rule values element key.values)) steps
+
+-- a term that has a collected form comes to the form's value, whatever values the integer variables have
+abbrev pub CollectedLaw : Type 0
+CollectedLaw =
+    (bound : List Outcome) (term : Term) (form : LinearOf Symbol) → (collected bound term).undefined ≡ false → HasForm (collected bound term) form
+    → (values : Symbol → ℤ) → (exact values bound term).integer ≡ Some (value_of values form)
+
+-- the value that is collected with a term is its value as an ordinary term
+abbrev pub OrdinaryLaw : Type 0
+OrdinaryLaw = (bound : List Outcome) (term : Term) → (collected bound term).value ≡ ordinary.value_of bound term
+
+-- a collected form has each variable once, in the order of symbols, and where no part is too large all its numbers are small
+abbrev pub FormLaw : Type 0
+FormLaw =
+    (bound : List Outcome) (term : Term)
+    → Ascends (λ a b. symbol_cmp a.0 b.0) (collected bound term).form.pairs
+    × ((collected bound term).large ≡ false → is_small_form (collected bound term).form ≡ true)
+
+-- over the numbers of listed variables a collected form is a sound linear term of a ground program
+abbrev pub SoundTermLaw : Type 0
+SoundTermLaw =
+    (variables : List Symbol) → Ascends symbol_cmp variables
+    → (bound : List Outcome) (term : Term) (form : LinearOf Symbol) → HasForm (collected bound term) form → ((x : Symbol) → OccursInForm x form → IsMember variables x)
+    → (linear : Linear) → linear_of linear ≡ linear_numbered variables form → is_sound_linear (length variables) linear ≡ true
+
+-- the tuples of a theory atom within the limit, in order and over numbers, are sound tuples of a ground program: each of them, all
+-- different, and not too many
+abbrev pub SoundTuplesLaw : Type 0
+SoundTuplesLaw =
+    (rules : List ReadRule) (rule : ReadRule) (values : List Value) (theory : ReadTheory) (variables : List Symbol) (places : List (PlaceOf Symbol))
+    (symbols : List Symbol) (held : List Place) → Ascends symbol_cmp variables
+    → IsOrderedListOf place_cmp (IsTuple (IsPossible rules) rule values theory) places → (Exceeds (IsTuple (IsPossible rules) rule values theory) most → ⊥)
+    → ((place : PlaceOf Symbol) → IsMember places place → (x : Symbol) → OccursInForm x place.linear → IsMember variables x)
+    → map (place_of symbols) held ≡ map (place_numbered variables) places → AllByRecursion (λ place. are_known (length symbols) place.rest ≡ true) held
+    → (list_all (is_sound_place (length symbols) (length variables)) held ≡ true) × (are_different held ≡ true) × (nat_le (length held) most ≡ true)
+
+-- and where it has few variables, few occur in them
+abbrev pub FewVariablesLaw : Type 0
+FewVariablesLaw =
+    (rules : List ReadRule) (rule : ReadRule) (values : List Value) (theory : ReadTheory) (variables : List Symbol) (places : List (PlaceOf Symbol))
+    (symbols : List Symbol) (held : List Place) → IsOrderedListOf place_cmp (IsTuple (IsPossible rules) rule values theory) places
+    → (theory.name ≡ name.Dom → ⊥) → (Exceeds (IsVariableIn (IsPossible rules) rule values theory) most → ⊥)
+    → map (place_of symbols) held ≡ map (place_numbered variables) places → has_few_variables (length variables) (first_places held) ≡ true
+
+-- a relation of a theory atom within its limits, over numbers, is a sound relation of a ground program
+abbrev pub SoundRelationLaw : Type 0
+SoundRelationLaw =
+    (rules : List ReadRule) (rule : ReadRule) (values : List Value) (theory : ReadTheory) (variables : List Symbol) (symbols : List Symbol)
+    (relation : RelationOf Symbol) (held : Relation) → Ascends symbol_cmp variables → RelationAs (IsPossible rules) rule values theory relation
+    → (Exceeds (IsTuple (IsPossible rules) rule values theory) most → ⊥) → (Exceeds (IsVariableIn (IsPossible rules) rule values theory) most → ⊥)
+    → (HasLargeTotal (IsPossible rules) rule values theory → ⊥)
+    → ((place : PlaceOf Symbol) → IsMember relation.elements place → (x : Symbol) → OccursInForm x place.linear → IsMember variables x)
+    → ((x : Symbol) → OccursInForm x relation.right → IsMember variables x)
+    → relation_of symbols held ≡ relation_numbered variables relation → AllByRecursion (λ place. are_known (length symbols) place.rest ≡ true) held.elements
+    → is_sound_relation (length symbols) (length variables) held ≡ true
+
+-- the tuples of `&distinct` or `&disjoint` within the limits, over numbers, are sound with their values over the ends
+abbrev pub SoundValuesLaw : Type 0
+SoundValuesLaw =
+    (rules : List ReadRule) (ends : Ends) (rule : ReadRule) (values : List Value) (theory : ReadTheory) (variables : List Symbol) (places : List (PlaceOf Symbol))
+    (symbols : List Symbol) (held : List Place) → Ascends symbol_cmp variables
+    → IsOrderedListOf place_cmp (IsTuple (IsPossible rules) rule values theory) places → (theory.name ≡ name.Distinct) ⊎ (theory.name ≡ name.Disjoint)
+    → (Exceeds (IsTuple (IsPossible rules) rule values theory) most → ⊥) → (Exceeds (IsVariableIn (IsPossible rules) rule values theory) most → ⊥)
+    → (HasLargeValue (IsPossible rules) ends rule values theory → ⊥)
+    → ((place : PlaceOf Symbol) → IsMember places place → (x : Symbol) → OccursInForm x place.linear → IsMember variables x)
+    → map (place_of symbols) held ≡ map (place_numbered variables) places → AllByRecursion (λ place. are_known (length symbols) place.rest ≡ true) held
+    → are_sound_values (length symbols) (length variables) ends held ≡ true

@@ -4,6 +4,7 @@ pub mod Ascending
 pub mod Substitution
 pub mod Comparison
 pub mod Collected
+pub mod Exact
 pub mod Theory
 pub mod Instance
 pub mod Tuples

@@ -1,5 +1,5 @@
 // What follows from the definitions. Each function's contract is the law, and its body is empty.
-ghost use Rattle.program_meaning.specs.Laws.{OneLaw, PossibleLaw, SameModelsLaw, DownLaw, UpLaw, ObjectiveLaw, CountLaw, TuplesLaw, VariablesLaw, ClosedLaw, GrowsLaw, LevelLaw, FallLaw, SearchLaw, StartLaw, LeafLaw, SafeLaw, MeetsLaw};
+ghost use Rattle.program_meaning.specs.Laws.{OneLaw, PossibleLaw, SameModelsLaw, DownLaw, UpLaw, ObjectiveLaw, CountLaw, TuplesLaw, VariablesLaw, ClosedLaw, GrowsLaw, LevelLaw, FallLaw, SearchLaw, StartLaw, LeafLaw, SafeLaw, MeetsLaw, SafeConditionLaw, StartWithLaw, StartsLaw, LocalsLaw, LeafElementLaw, MeetsElementLaw, MeetsChoiceLaw, CollectedLaw, OrdinaryLaw, FormLaw, SoundTermLaw, SoundTuplesLaw, FewVariablesLaw, SoundRelationLaw, SoundValuesLaw};
 
 /// Two canonical ground programs of a program are equal, each id read as its symbol.
 pub fn canonical_programs_are_one()
@@ -60,4 +60,44 @@ pub fn searches_find_each_once()
     ensures leaf { LeafLaw }
     ensures safe { SafeLaw }
     ensures meets { MeetsLaw }
+{}
+
+/// The same of the elements of a theory atom or a choice, whose conditions bind their local variables. A
+/// search for the instances of an element may start where the global variables have the values of an instance
+/// of its rule (`start`), and there it stands for each instance of the element under them (`stands`). A
+/// condition that binds its local variables has steps of its own, ready in their order from there (`safe`), and
+/// each relevant instance of an element meets them over the possible atoms (`element`, `choice`). By the law
+/// above each of them is then found once: global and local variables are different ones (`locals`), and a node
+/// at which they are all bound stands for one instance (`leaf`).
+pub fn elements_are_searched_alike()
+    ensures start { StartWithLaw }
+    ensures stands { StartsLaw }
+    ensures safe { SafeConditionLaw }
+    ensures locals { LocalsLaw }
+    ensures leaf { LeafElementLaw }
+    ensures element { MeetsElementLaw }
+    ensures choice { MeetsChoiceLaw }
+{}
+
+/// A term that has a collected form comes to the value of this form, whatever values the integer variables
+/// have (`value`), and the value that is collected with it is its value as an ordinary term (`ordinary`). The
+/// form has each variable once, in the order of symbols, and small numbers (`form`), and so it is a sound linear
+/// term of a ground program over the numbers of its variables (`sound`).
+pub fn collecting_keeps_values()
+    ensures value { CollectedLaw }
+    ensures ordinary { OrdinaryLaw }
+    ensures form { FormLaw }
+    ensures sound { SoundTermLaw }
+{}
+
+/// The tuples of a theory atom that has at most 65,536 of them are sound in a ground program, in order and over
+/// the numbers of its variables: each of them, all different, and not too many (`tuples`); and where it has at
+/// most 65,536 variables, no more stand in them (`variables`). So a relation whose total minus the right side
+/// is not too large is sound (`relation`), and so are tuples of `&distinct` and `&disjoint` whose values over
+/// the ends are not (`values`).
+pub fn tuples_are_sound()
+    ensures tuples { SoundTuplesLaw }
+    ensures variables { FewVariablesLaw }
+    ensures relation { SoundRelationLaw }
+    ensures values { SoundValuesLaw }
 {}

@@ -9,15 +9,28 @@
 //! `ground_model`.
 #![tactic(auto)]
 
+mod collected;
+mod collecting;
 mod comparing;
 mod laws;
 mod numbering;
+mod pairs;
+mod ranking;
+mod relevance;
 #[cfg(test)]
 mod tests;
+mod tuple_order;
 
+pub use collected::{CollectedPlace, CollectedTuples, SymbolLinear};
+pub use collecting::tuple_set;
 pub use comparing::{Truth, compare_values, compare_worths, may_hold};
 pub use laws::{
-    canonical_programs_are_one, closed_sets_have_possible_atoms, grounding_keeps_models,
-    levels_fall, lists_decide_limits, models_are_possible, searches_find_each_once,
+    canonical_programs_are_one, closed_sets_have_possible_atoms, collecting_keeps_values,
+    elements_are_searched_alike, grounding_keeps_models, levels_fall, lists_decide_limits,
+    models_are_possible, searches_find_each_once, tuples_are_sound,
 };
 pub use numbering::number_literal;
+pub use pairs::add_pair;
+pub use ranking::{AtomWorth, mark_head};
+pub use relevance::is_possible_literal;
+pub use tuple_order::compare_tuples;
