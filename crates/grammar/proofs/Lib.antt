@@ -11,3 +11,7 @@ pub mod TermLaws
 pub mod Tried
 pub mod Pairs
 pub mod Marked
+pub mod KindLaws
+pub mod ConditionLaws
+pub mod ElementLaws
+pub mod TheoryLaws

@@ -4,6 +4,7 @@ use Rattle.std.proofs.lemmas.Bool.{eq-eqb}
 use Rattle.grammar.specs.declared.mark.Mark.{Mark}
 use Rattle.grammar.specs.Word.{Word, is_word, is_next, mark_number, Ends}
 use Rattle.grammar.specs.Word as word
+use Rattle.grammar.specs.Parts.{marked_words, closed_words}
 use Rattle.grammar.specs.Reading.{Fault, Reader, expected, before, marked_with, closed_with, mapped_with}
 use Rattle.grammar.proofs.WordLemmas.{the_next}
 use Rattle.grammar.proofs.Lawful.{Refuses, Stuck, Lawful, ok_pair, ok_parts, bind_ok, bind_err, bind_by, expected_left, stuck_inside, stuck_behind, before_ok, before_err, before_refuses, never_on, next_is, next_same}
@@ -15,8 +16,8 @@ mark_is mark rest = eq-eqb (mark_number mark) (mark_number mark) refl
 
 -- ---- a mark before
 module _ {A : Type 0} (words : A → List Word → List Word) (goes_on : A → Word → Bool) (read : Reader A) (law : Weak words goes_on read) (mark : Mark) (some_form : A) where
-  abbrev pub marked_words : A → List Word → List Word
-  marked_words a rest = word.mark mark ∷ words a rest
+  abbrev Words : A → List Word → List Word
+  Words = marked_words mark words
 
   abbrev marked : Reader A
   marked = marked_with mark read
@@ -24,10 +25,10 @@ module _ {A : Type 0} (words : A → List Word → List Word) (goes_on : A → W
   marked_is : (ts : List Word) → marked (word.mark mark ∷ ts) ≡ read ts
   marked_is ts = ap (λ b. if b then read ts else expected (word.mark mark ∷ ts)) (mark_is mark ts)
 
-  marked_sound : (ts : List Word) (a : A) (rest : List Word) → marked ts ≡ Ok (a, rest) → (ts ≡ marked_words a rest) × Ends (goes_on a) rest
+  marked_sound : (ts : List Word) (a : A) (rest : List Word) → marked ts ≡ Ok (a, rest) → (ts ≡ Words a rest) × Ends (goes_on a) rest
   marked_sound ts a rest h = by (is_next mark ts) refl h
     where
-      by : (b : Bool) → is_next mark ts ≡ b → (if b then read (drop 1 ts) else expected ts) ≡ Ok (a, rest) → (ts ≡ marked_words a rest) × Ends (goes_on a) rest
+      by : (b : Bool) → is_next mark ts ≡ b → (if b then read (drop 1 ts) else expected ts) ≡ Ok (a, rest) → (ts ≡ Words a rest) × Ends (goes_on a) rest
       by true q h = let s = law.sound (drop 1 ts) a rest h in (the_next mark ts q ∙ ap (λ z. word.mark mark ∷ z) s.0, s.1)
       by false q h = absurd cc
 
@@ -38,26 +39,26 @@ module _ {A : Type 0} (words : A → List Word → List Word) (goes_on : A → W
       by true q h = absurd cc
       by false q h = absurd cc
 
-  marked_stuck : (ts : List Word) (f : Fault) → marked ts ≡ Err f → Stuck marked_words (Refuses marked) ts f
+  marked_stuck : (ts : List Word) (f : Fault) → marked ts ≡ Err f → Stuck Words (Refuses marked) ts f
   marked_stuck ts f h = by (is_next mark ts) refl h
     where
-      by : (b : Bool) → is_next mark ts ≡ b → (if b then read (drop 1 ts) else expected ts) ≡ Err f → Stuck marked_words (Refuses marked) ts f
+      by : (b : Bool) → is_next mark ts ≡ b → (if b then read (drop 1 ts) else expected ts) ≡ Err f → Stuck Words (Refuses marked) ts f
       by false q h = record {
         front = [];
         after = ts;
         split = refl;
         place = expected_left {A = A} ts f h;
         goes = some_form;
-        more = marked_words some_form [];
+        more = Words some_form [];
         begins = refl;
         local = λ x r next e. no_mark (x ∷ next) (next_same mark x r next ts e q);
       }
       by true q h =
-          subst (λ z. Stuck marked_words (Refuses marked) z f) (sym (the_next mark ts q))
-          (stuck_inside words marked_words (Refuses read) (Refuses marked) (word.mark mark ∷ []) (λ a. a) [] (drop 1 ts) f (λ a. refl) law.parted
+          subst (λ z. Stuck Words (Refuses marked) z f) (sym (the_next mark ts q))
+          (stuck_inside words Words (Refuses read) (Refuses marked) (word.mark mark ∷ []) (λ a. a) [] (drop 1 ts) f (λ a. refl) law.parted
           (λ front x r next e bad y k. bad y (sym (marked_is (front ++ x ∷ next)) ∙ k)) (law.stuck (drop 1 ts) f h))
 
-  pub marked_lawful : Lawful marked_words goes_on marked
+  pub marked_lawful : Lawful Words goes_on marked
   marked_lawful = record {
     parted = λ a x y. ap (λ z. word.mark mark ∷ z) (law.parted a x y);
     some = λ a rest. omega (arith, law.longer a rest);
@@ -69,8 +70,8 @@ module _ {A : Type 0} (words : A → List Word → List Word) (goes_on : A → W
 -- ---- a mark behind
 module _ {A : Type 0} (words : A → List Word → List Word) (goes_on : A → Word → Bool) (read : Reader A) (law : Weak words goes_on read) (mark : Mark)
     (apart : (a : A) → goes_on a (word.mark mark) ≡ false) where
-  abbrev pub closed_words : A → List Word → List Word
-  closed_words a rest = words a (word.mark mark ∷ rest)
+  abbrev Whole : A → List Word → List Word
+  Whole = closed_words mark words
 
   abbrev pub never : A → Word → Bool
   never a next = false
@@ -81,30 +82,30 @@ module _ {A : Type 0} (words : A → List Word → List Word) (goes_on : A → W
   before_is : (a : A) (rest : List Word) → before mark a (word.mark mark ∷ rest) ≡ Ok (a, rest)
   before_is a rest = ap (λ b. if b then ok_pair a rest else expected (word.mark mark ∷ rest)) (mark_is mark rest)
 
-  closed_sound : (ts : List Word) (a : A) (rest : List Word) → closed ts ≡ Ok (a, rest) → (ts ≡ closed_words a rest) × Ends (never a) rest
+  closed_sound : (ts : List Word) (a : A) (rest : List Word) → closed ts ≡ Ok (a, rest) → (ts ≡ Whole a rest) × Ends (never a) rest
   closed_sound ts a rest h =
       let b = bind_ok (read ts) (before mark) (a, rest) h in
       let q = before_ok mark b.0 a b.1 rest b.3 in
       let s = law.sound ts b.0 b.1 b.2 in
       (s.0 ∙ ap (words b.0) q.0 ∙ ap (λ z. words z (word.mark mark ∷ rest)) q.1, never_on rest)
 
-  closed_stuck : (ts : List Word) (f : Fault) → closed ts ≡ Err f → Stuck closed_words (Refuses closed) ts f
+  closed_stuck : (ts : List Word) (f : Fault) → closed ts ≡ Err f → Stuck Whole (Refuses closed) ts f
   closed_stuck ts f h = two (bind_err (read ts) (before mark) f h)
     where
-      two : (read ts ≡ Err f) ⊎ ((a : A) × (after : List Word) × (read ts ≡ Ok (a, after)) × (before mark a after ≡ Err f)) → Stuck closed_words (Refuses closed) ts f
+      two : (read ts ≡ Err f) ⊎ ((a : A) × (after : List Word) × (read ts ≡ Ok (a, after)) × (before mark a after ≡ Err f)) → Stuck Whole (Refuses closed) ts f
       two (inl g) =
-          stuck_inside words closed_words (Refuses read) (Refuses closed) [] (λ a. a) (word.mark mark ∷ []) ts f (λ a. refl) law.parted
+          stuck_inside words Whole (Refuses read) (Refuses closed) [] (λ a. a) (word.mark mark ∷ []) ts f (λ a. refl) law.parted
           (λ front x r next e bad y k. let b = bind_ok (read (front ++ x ∷ next)) (before mark) y k in bad (b.0, b.1) b.2) (law.stuck ts f g)
       two (inr c) =
           let s = law.sound ts c.0 c.1 c.2 in
           let gone = before_err mark c.0 c.1 f c.3 in
-          subst (λ z. Stuck closed_words (Refuses closed) z f) (sym s.0)
-          (stuck_behind words closed_words (Refuses closed) law.parted [] c.0 (word.mark mark ∷ []) c.0 c.1 f gone.place refl
+          subst (λ z. Stuck Whole (Refuses closed) z f) (sym s.0)
+          (stuck_behind words Whole (Refuses closed) law.parted [] c.0 (word.mark mark ∷ []) c.0 c.1 f gone.place refl
           (λ x r next e y k.
           let again = bind_by (read (words c.0 (x ∷ next))) (before mark) c.0 (x ∷ next) (law.complete c.0 (x ∷ next) (next_is (goes_on c.0) x r next c.1 e s.1)) in
           before_refuses mark c.0 (x ∷ next) (next_same mark x r next c.1 e gone.other) y (sym again ∙ k)))
 
-  pub closed_lawful : Lawful closed_words never closed
+  pub closed_lawful : Lawful Whole never closed
   closed_lawful = record {
     parted = λ a x y. law.parted a (word.mark mark ∷ x) y;
     some = λ a rest. omega (arith, law.longer a (word.mark mark ∷ rest));

@@ -31,7 +31,7 @@ term_law n = term_lawful (unary_text n) (unary_on n) (unary_at n) (operand_lawfu
 pub args_law : (n : ℕ) → Lawful (args_words (unary_text n)) (args_go_on (unary_on n)) (args_at n)
 args_law n = args_lawful (unary_text n) (unary_on n) (unary_at n) (operand_lawful n) (operand_only n)
 
-terms_deeper : (n : ℕ) → Deeper (term_at n) (term_at (suc n))
+pub terms_deeper : (n : ℕ) → Deeper (term_at n) (term_at (suc n))
 terms_deeper n = term_deeper (unary_at n) (unary_at (suc n)) (operand_deeper n) (operand_shrinks (suc n))
 
 pub term_expected : (n : ℕ) (ts : List Word) (k : ℕ) → term_at n ts ≡ Err (Expected k) → Found (IsExpected TermAt term_text n) ts k

@@ -5,9 +5,9 @@ use Rattle.grammar.specs.declared.mark.Mark.TheVariants as m
 use Rattle.grammar.specs.Word as word
 use Rattle.grammar.specs.Row.{Row}
 use Rattle.grammar.specs.Term.{UnaryAt, TermAt, Adding, Multiplying, minus, alone, interval, plain, number, variable, atom}
-use Rattle.grammar.specs.Theory.{no_colon}
 use Rattle.grammar.specs.Statement.{StatementAt, theory, headed, constant, atom_head, theory_head, no_arrow, arrow, words_of_statement}
-use Rattle.grammar.specs.Check.{failing, fails, UnknownTheory, WrongPlace, BadGuard, BadTerm}
+use Rattle.grammar.specs.declared.check.Check.TheVariants.{UnknownTheory, WrongPlace, BadGuard, BadTerm}
+use Rattle.grammar.specs.Check.{failing, fails}
 
 abbrev one : UnaryAt 1 → Row (Row (UnaryAt 1) Multiplying) Adding
 one u = record { first = record { first = u; rest = [] }; rest = [] }
@@ -27,7 +27,7 @@ dom_in_a_body =
     headed (atom_head (plain (codes "a"))) (arrow (Some (record {
       first = theory true (record {
         name = codes "dom";
-        elements = Some (record { first = record { first = interval (one (number 1)) (one (number 2)); duration = None; rest = []; condition = no_colon }; rest = [] });
+        elements = Some (record { first = record { first = interval (one (number 1)) (one (number 2)); duration = None; rest = None; condition = None }; rest = [] });
         guard = Some (rel.Equal, term (name (codes "x")));
       });
       rest = [];
@@ -44,7 +44,7 @@ dom_fails = refl
 -- &sim{x}<=1.
 sim_fails : failing 1 (headed (theory_head (record {
   name = codes "sim";
-  elements = Some (record { first = record { first = term (name (codes "x")); duration = None; rest = []; condition = no_colon }; rest = [] });
+  elements = Some (record { first = record { first = term (name (codes "x")); duration = None; rest = None; condition = None }; rest = [] });
   guard = Some (rel.LessEqual, term (number 1));
 })) no_arrow) 0 ≡ fails UnknownTheory 1
 sim_fails = refl
@@ -52,7 +52,7 @@ sim_fails = refl
 -- &diff{x-y}<=3.
 diff_holds : failing 1 (headed (theory_head (record {
   name = codes "diff";
-  elements = Some (record { first = record { first = difference (name (codes "x")) (name (codes "y")); duration = None; rest = []; condition = no_colon }; rest = [] });
+  elements = Some (record { first = record { first = difference (name (codes "x")) (name (codes "y")); duration = None; rest = None; condition = None }; rest = [] });
   guard = Some (rel.LessEqual, term (number 3));
 })) no_arrow) 0 ≡ []
 diff_holds = refl
@@ -60,7 +60,7 @@ diff_holds = refl
 -- &diff{x}.
 diff_fails : failing 1 (headed (theory_head (record {
   name = codes "diff";
-  elements = Some (record { first = record { first = term (name (codes "x")); duration = None; rest = []; condition = no_colon }; rest = [] });
+  elements = Some (record { first = record { first = term (name (codes "x")); duration = None; rest = None; condition = None }; rest = [] });
   guard = None;
 })) no_arrow) 0 ≡ record { check = BadTerm; at = 3 } ∷ record { check = BadGuard; at = 5 } ∷ []
 diff_fails = refl

@@ -1,34 +1,48 @@
 -- The checks of statements that the grammar derives: which of them fail, and where.
-use Rattle.std.specs.Prelude.{ℕ, zero, suc, ◌+◌, Bool, true, false, not, ◌&&◌, ◌||◌, bytes_eq, if◌then◌else◌, Option, Some, None, List, [], ◌∷◌, ◌++◌}
+use Rattle.std.specs.Prelude.{ℕ, zero, suc, ◌+◌, Bool, true, false, not, ◌&&◌, ◌||◌, ◌==◌, nat_lt, bytes_eq, if◌then◌else◌, Option, Some, None, List, [], ◌∷◌, ◌++◌}
 use Rattle.std.specs.List.{list_any}
+use Rattle.std.specs.Option.{is_some}
 use Rattle.symbols.specs.declared.rel.Rel.{Rel}
 use Rattle.symbols.specs.declared.rel.Rel.TheVariants as rel
 use Rattle.syntax_tree.specs.declared.literal.TheoryName.{TheoryName}
 use Rattle.syntax_tree.specs.declared.literal.TheoryName.TheVariants as name
+use Rattle.grammar.specs.declared.check.Check.{Check}
+use Rattle.grammar.specs.declared.check.Check.TheVariants.{UnknownTheory, WrongPlace, BadGuard, BadTerm, TooManyVariables}
+use Rattle.grammar.specs.declared.check.Failing.{Failing}
 use Rattle.grammar.specs.declared.shape.Shape.{Shape}
 use Rattle.grammar.specs.declared.shape.Shape.TheVariants.{Atom, Interval, Other}
 use Rattle.grammar.specs.Word.{Word}
 use Rattle.grammar.specs.Row.{Row}
+use Rattle.grammar.specs.Parts.{maybe_gives, further}
 use Rattle.grammar.specs.Term.{Adding, plus, minus, TermOf, UnaryOf, Operand, alone, interval, group, unary_words, operand_words, atom_words}
 use Rattle.grammar.specs.Shape.{term_shape, unary_shape, operand_shape}
-use Rattle.grammar.specs.Sight.{Sighting, of_variable, of_anonymous, of_interval, of_atom, size, along, along_tail, refused_by, term_bads, atom_bads, unary_bads, operand_bads}
-use Rattle.grammar.specs.Theory.{FullTerm, ConditionOf, holds, compares, GivenOf, no_colon, colon, given, ElementOf, TheoryOf, full_words, condition_words, element_words}
+use Rattle.grammar.specs.Sight.{Sighting, of_variable, of_anonymous, of_interval, of_atom, size, along, part_bads, term_bads, atom_bads, unary_bads, operand_bads}
+use Rattle.grammar.specs.Theory.{FullTerm, ConditionOf, holds, compares, PlacesOf, GivenOf, ElementOf, TheoryOf, full_words, condition_words, element_words}
 use Rattle.grammar.specs.Statement.{LiteralOf, simple, theory, BodyOf, ChosenOf, ChoiceOf, HeadOf, atom_head, choice_head, theory_head, ArrowOf, no_arrow, arrow, StatementOf, headed, constraint, constant, show_nothing, show, StatementAt, literal_words, chosen_words, maybe_rel_words, head_words}
 use Rattle.grammar.specs.StatementTree.{theory_name}
 use Rattle.grammar.specs.StatementSight.{behind_first, behind_duration, behind_rest, theory_brace, choice_opening, choice_closing, sights_of_statement}
 
--- the checks, in the order in which they come first at one place
-pub data Check : Type 0 where
-  UnknownTheory : Check
-  WrongPlace : Check
-  BadGuard : Check
-  BadTerm : Check
-  TooManyVariables : Check
+-- where checks stand among those that fail at one place
+abbrev pub rank : Check → ℕ
+rank UnknownTheory = 0
+rank WrongPlace = 1
+rank BadGuard = 2
+rank BadTerm = 3
+rank TooManyVariables = 4
 
--- a check that fails, and the number of the word where it does
-pub record Failing : Type 0 where
-  pub check : Check
-  pub at : ℕ
+-- a failed check comes before another: at a lesser place, or at the same place in the order of the checks
+abbrev pub comes_before : Failing → Failing → Bool
+comes_before one other = nat_lt one.at other.at || ((one.at == other.at) && nat_lt (rank one.check) (rank other.check))
+
+-- the failed check so far, or another where that comes before it
+abbrev pub sooner : Option Failing → Failing → Option Failing
+sooner None failing = Some failing
+sooner (Some first) failing = (if comes_before failing first then Some failing else Some first)
+
+-- the first of failed checks and the one so far
+abbrev pub first_of : Option Failing → List Failing → Option Failing
+first_of so_far [] = so_far
+first_of so_far (failing ∷ rest) = first_of (sooner so_far failing) rest
 
 abbrev pub fails : Check → ℕ → List Failing
 fails check at = record { check = check; at = at } ∷ []
@@ -93,16 +107,21 @@ has_one_place name.Show = true
 has_one_place _ = false
 
 -- what is wrong with a guard: `sum` and `diff` need one, `dom` needs one with `=`, an unknown name may have one, any other has none
-abbrev pub is_bad_guard : {A : Type 0} → TheoryName → Option (Rel × A) → Bool
+abbrev pub is_bad_guard : TheoryName → Option Rel → Bool
 is_bad_guard name.Sum None = true
-is_bad_guard name.Sum (Some guard) = false
+is_bad_guard name.Sum (Some r) = false
 is_bad_guard name.Diff None = true
-is_bad_guard name.Diff (Some guard) = false
+is_bad_guard name.Diff (Some r) = false
 is_bad_guard name.Dom None = true
-is_bad_guard name.Dom (Some guard) = not (is_equal guard.0)
+is_bad_guard name.Dom (Some r) = not (is_equal r)
 is_bad_guard name.Unknown guard = false
 is_bad_guard _ None = false
-is_bad_guard _ (Some guard) = true
+is_bad_guard _ (Some r) = true
+
+-- the relation of a guard
+abbrev pub relation_of : {A : Type 0} → Option (Rel × A) → Option Rel
+relation_of None = None
+relation_of (Some guard) = Some guard.0
 
 -- ---- `u - v`, parentheses around it aside
 abbrev pub is_one_minus : {I : Type 0} → List (Adding × I) → Bool
@@ -137,78 +156,84 @@ abbrev pub sight_places : List Sighting → List ℕ
 sight_places [] = []
 sight_places (s ∷ sights) = s.at ∷ sight_places sights
 
+-- places where a test finds something
+abbrev pub places_where : Bool → ℕ → List ℕ
+places_where false at = []
+places_where true at = at ∷ []
+
+-- a second item of a row, behind a sign at the place, fails where there may be one alone
+abbrev pub second_bads : {X : Type 0} → Bool → List X → ℕ → List ℕ
+second_bads only_one [] at = []
+second_bads only_one (part ∷ parts) at = places_where only_one (at + 1)
+
 -- ---- forms
 module _ {D R : Type 0} (words : D → List Word → List Word) (shape : D → Shape) (bads : D → ℕ → List ℕ) (difference : D → Bool) where
   abbrev pub full_shape : FullTerm D R → Shape
   full_shape = term_shape (unary_shape shape)
 
   -- a term that may be an interval, and one that may not
-  abbrev pub free_term : FullTerm D R → ℕ → List Failing
-  free_term term at = bad_terms (term_bads (unary_words words) (unary_shape shape) (unary_bads words shape bads) term at)
+  abbrev pub free_bads : FullTerm D R → ℕ → List ℕ
+  free_bads = term_bads (unary_words words) (unary_shape shape) (unary_bads words shape bads)
 
-  abbrev pub plain_term : FullTerm D R → ℕ → List Failing
-  plain_term term at = bad_terms (refused_by (full_shape term) at) ++ free_term term at
+  abbrev pub plain_bads : FullTerm D R → ℕ → List ℕ
+  plain_bads = part_bads full_shape free_bads
 
   -- an interval may stand on the right side of `=` alone
-  abbrev pub right_side : Rel → FullTerm D R → ℕ → List Failing
-  right_side r term at = (if is_equal r then free_term term at else plain_term term at)
+  abbrev pub right_bads : Rel → FullTerm D R → ℕ → List ℕ
+  right_bads r term at = (if is_equal r then free_bads term at else plain_bads term at)
 
-  abbrev pub condition_fails : ConditionOf D R → ℕ → List Failing
-  condition_fails (holds true a) at = bad_terms (atom_bads words shape bads a at)
-  condition_fails (holds false a) at = bad_terms (atom_bads words shape bads a (at + 1))
-  condition_fails (compares left r right) at = plain_term left at ++ right_side r right (at + size (full_words {R = R} words) left + 1)
+  abbrev pub condition_bads : ConditionOf D R → ℕ → List ℕ
+  condition_bads (holds true a) at = atom_bads words shape bads a at
+  condition_bads (holds false a) at = atom_bads words shape bads a (at + 1)
+  condition_bads (compares left r right) at = plain_bads left at ++ right_bads r right (at + size (full_words {R = R} words) left + 1)
 
-  abbrev pub given_fails : GivenOf D R → ℕ → List Failing
-  given_fails no_colon at = []
-  given_fails colon at = []
-  given_fails (given conditions) at = along condition_fails (size (condition_words words)) conditions (at + 1)
+  abbrev pub given_bads : GivenOf D R → ℕ → List ℕ
+  given_bads = maybe_gives (further (maybe_gives (along condition_bads (size (condition_words words)))))
 
-  abbrev pub has_colon : GivenOf D R → Bool
-  has_colon no_colon = false
-  has_colon colon = true
-  has_colon (given conditions) = true
+  -- the first place of an element: an interval may stand in `dom` alone, and in `diff` it is a difference
+  abbrev pub first_bads : TheoryName → FullTerm D R → ℕ → List ℕ
+  first_bads atom_name term at =
+      places_where (is_diff atom_name && not (term_is_difference (unary_is_difference {R = R} difference) term)) at ++ (if is_dom atom_name then free_bads term at else plain_bads term at)
 
-  -- a duration stands in each element of `disjoint` and in no other
-  abbrev pub duration_fails : TheoryName → Option (FullTerm D R) → ℕ → ℕ → List Failing
-  duration_fails atom_name None first at = fails_where (is_disjoint atom_name) BadTerm first
-  duration_fails atom_name (Some term) first at = fails_where (not (is_disjoint atom_name)) BadTerm at ++ plain_term term (at + 1)
+  -- a duration stands in each element of `disjoint` and in no other; `first` is where the element begins
+  abbrev pub duration_bads : TheoryName → ℕ → Option (FullTerm D R) → ℕ → List ℕ
+  duration_bads atom_name first None at = places_where (is_disjoint atom_name) first
+  duration_bads atom_name first (Some term) at = places_where (not (is_disjoint atom_name)) at ++ plain_bads term (at + 1)
 
   -- a further place
-  abbrev pub place_fails : TheoryName → FullTerm D R → ℕ → List Failing
-  place_fails atom_name term at = fails_where (has_one_place atom_name) BadTerm at ++ plain_term term at
+  abbrev pub place_bads : TheoryName → FullTerm D R → ℕ → List ℕ
+  place_bads atom_name term at = places_where (has_one_place atom_name) at ++ plain_bads term at
 
-  -- an element that may be the only one of its atom, or not
-  abbrev pub element_fails : TheoryName → ElementOf D R → ℕ → List Failing
-  element_fails atom_name element at =
-      (if is_dom atom_name then free_term element.first at else plain_term element.first at)
-      ++ fails_where (is_diff atom_name && not (term_is_difference (unary_is_difference {R = R} difference) element.first)) BadTerm at
-      ++ duration_fails atom_name element.duration at (behind_first words element at)
-      ++ along_tail (place_fails atom_name) (size (full_words words)) element.rest (behind_duration words element at)
-      ++ fails_where (is_diff atom_name && has_colon element.condition) BadTerm (behind_rest words element at)
-      ++ given_fails element.condition (behind_rest words element at)
+  abbrev pub places_bads : TheoryName → Option (PlacesOf D R) → ℕ → List ℕ
+  places_bads atom_name = maybe_gives (further (along (place_bads atom_name) (size (full_words words))))
+
+  -- the condition of an element; `diff` has none
+  abbrev pub only_bads : TheoryName → GivenOf D R → ℕ → List ℕ
+  only_bads atom_name condition at = places_where (is_some condition && is_diff atom_name) at ++ given_bads condition at
+
+  abbrev pub element_bads : TheoryName → ElementOf D R → ℕ → List ℕ
+  element_bads atom_name element at =
+      first_bads atom_name element.first at ++ duration_bads atom_name at element.duration (behind_first words element at)
+      ++ places_bads atom_name element.rest (behind_duration words element at) ++ only_bads atom_name element.condition (behind_rest words element at)
 
   -- `diff` has one element
-  abbrev pub further_fails : TheoryName → ElementOf D R → ℕ → List Failing
-  further_fails atom_name element at = fails_where (is_diff atom_name) BadTerm at ++ element_fails atom_name element at
+  abbrev pub elements_bads : TheoryName → Option (Row (ElementOf D R) (Unit {0})) → ℕ → List ℕ
+  elements_bads atom_name None at = places_where (is_diff atom_name) at
+  elements_bads atom_name (Some row) at = along (element_bads atom_name) (size (element_words words)) row at ++ second_bads (is_diff atom_name) row.rest (at + size (element_words words) row.first)
 
-  abbrev pub elements_fail : TheoryName → Option (Row (ElementOf D R) (Unit {0})) → ℕ → List Failing
-  elements_fail atom_name None at = fails_where (is_diff atom_name) BadTerm at
-  elements_fail atom_name (Some row) at = element_fails atom_name row.first at ++ along_tail (further_fails atom_name) (size (element_words words)) row.rest (at + size (element_words words) row.first)
-
-  abbrev pub guard_fails : Option (Rel × FullTerm D R) → ℕ → List Failing
-  guard_fails None at = []
-  guard_fails (Some guard) at = plain_term guard.1 (at + 1)
+  abbrev pub guard_bads : Option (Rel × FullTerm D R) → ℕ → List ℕ
+  guard_bads = maybe_gives (further (λ guard. plain_bads guard.1))
 
   -- a theory atom, wherever it stands
   abbrev pub theory_fails : TheoryOf D R → ℕ → List Failing
   theory_fails a at =
       fails_where (is_unknown (theory_name a.name)) UnknownTheory (at + 1)
-      ++ elements_fail (theory_name a.name) a.elements (at + 3)
-      ++ fails_where (is_bad_guard (theory_name a.name) a.guard) BadGuard (theory_brace words a at + 1)
-      ++ guard_fails a.guard (theory_brace words a at + 1)
+      ++ bad_terms (elements_bads (theory_name a.name) a.elements (at + 3))
+      ++ fails_where (is_bad_guard (theory_name a.name) (relation_of a.guard)) BadGuard (theory_brace words a at + 1)
+      ++ bad_terms (guard_bads a.guard (theory_brace words a at + 1))
 
   abbrev pub literal_fails : LiteralOf D R → ℕ → List Failing
-  literal_fails (simple condition) at = condition_fails condition at
+  literal_fails (simple condition) at = bad_terms (condition_bads condition at)
   literal_fails (theory true a) at = fails_where (not (is_literal (theory_name a.name))) WrongPlace at ++ theory_fails a at
   literal_fails (theory false a) at = fails_where (not (is_literal (theory_name a.name))) WrongPlace (at + 1) ++ theory_fails a (at + 1)
 
@@ -218,14 +243,14 @@ module _ {D R : Type 0} (words : D → List Word → List Word) (shape : D → S
 
   abbrev pub left_fails : Option (FullTerm D R × Option Rel) → ℕ → List Failing
   left_fails None at = []
-  left_fails (Some bound) at = plain_term bound.0 at
+  left_fails (Some bound) at = bad_terms (plain_bads bound.0 at)
 
   abbrev pub right_fails : Option (Option Rel × FullTerm D R) → ℕ → List Failing
   right_fails None at = []
-  right_fails (Some bound) at = plain_term bound.1 (at + size maybe_rel_words bound.0)
+  right_fails (Some bound) at = bad_terms (plain_bads bound.1 (at + size maybe_rel_words bound.0))
 
   abbrev pub chosen_fails : ChosenOf D R → ℕ → List Failing
-  chosen_fails element at = bad_terms (atom_bads words shape bads element.atom at) ++ given_fails element.condition (at + size (atom_words words) element.atom)
+  chosen_fails element at = bad_terms (atom_bads words shape bads element.atom at) ++ bad_terms (given_bads element.condition (at + size (atom_words words) element.atom))
 
   abbrev pub chosens_fail : Option (Row (ChosenOf D R) (Unit {0})) → ℕ → List Failing
   chosens_fail None at = []
@@ -253,7 +278,7 @@ module _ {D R : Type 0} (words : D → List Word → List Word) (shape : D → S
   abbrev pub statement_fails : List Sighting → StatementOf D R → ℕ → List Failing
   statement_fails sights (headed head behind) at = head_fails head at ++ arrow_fails (stands_alone head) behind (at + size (head_words words) head)
   statement_fails sights (constraint body) at = body_fails body (at + 1)
-  statement_fails sights (constant constant_name term) at = bad_terms (sight_places sights) ++ plain_term term (at + 3)
+  statement_fails sights (constant constant_name term) at = bad_terms (sight_places sights) ++ bad_terms (plain_bads term (at + 3))
   statement_fails sights show_nothing at = []
   statement_fails sights (show predicate arity) at = []
 

@@ -1,5 +1,6 @@
 pub mod Word
 pub mod Row
+pub mod Parts
 pub mod Term
 pub mod Reading
 pub mod Faults
@@ -8,6 +9,7 @@ pub mod Tree
 pub mod Sight
 pub mod Spelled
 pub mod Theory
+pub mod TheoryReading
 pub mod Statement
 pub mod StatementTree
 pub mod StatementSight

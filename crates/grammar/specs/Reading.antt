@@ -60,6 +60,32 @@ abbrev pub sign_at : {S : Type 0} → (Word → Option S) → List Word → Opti
 sign_at sign [] = None
 sign_at sign (next ∷ words) = sign next
 
+-- a form behind a sign
+abbrev pub signed_with : {S A : Type 0} → (Word → Option S) → Reader A → Reader (S × A)
+signed_with sign read words =
+    elim (sign_at sign words) [
+      | Some s ↦ and_then (read (drop 1 words)) (λ a rest. Ok ((s, a), rest))
+      | None ↦ expected words
+    ]
+
+-- a form of one of two kinds
+pub data Either (A B : Type 0) : Type 0 where
+  one : A → Either A B
+  other : B → Either A B
+
+-- a form of one kind, where a word comes next with which one begins, and else one of another
+abbrev pub either_with : {A B : Type 0} → (Word → Bool) → Reader A → Reader B → Reader (Either A B)
+either_with starts first second words =
+    (if starts_next starts words then and_then (first words) (λ a rest. Ok (one a, rest)) else and_then (second words) (λ b rest. Ok (other b, rest)))
+
+-- what of a kind of forms is a form of another; none goes on behind one that isn't
+abbrev pub kept_by : {B : Type 0} → Option B → Reader B
+kept_by None words = expected words
+kept_by (Some b) words = Ok (b, words)
+
+abbrev pub kept_with : {A B : Type 0} → (A → Option B) → Reader A → Reader B
+kept_with keep read words = and_then (read words) (λ a rest. kept_by (keep a) rest)
+
 module _ {I S : Type 0} (item : Reader I) (sign : Word → Option S) where
   -- signs with an item behind each; the number bounds them
   unfoldable pub tail_with : ℕ → Reader (List (S × I))

@@ -1,13 +1,14 @@
 -- Where variables, `_`, intervals that are arguments, and atoms stand in a statement that begins at a place.
-use Rattle.std.specs.Prelude.{ℕ, ◌+◌, true, false, Option, Some, None, List, [], ◌++◌, length}
+use Rattle.std.specs.Prelude.{ℕ, ◌+◌, true, false, Option, Some, None, List, [], ◌++◌}
 use Rattle.symbols.specs.declared.rel.Rel.{Rel}
 use Rattle.grammar.specs.declared.shape.Shape.{Shape}
 use Rattle.grammar.specs.Word.{Word}
-use Rattle.grammar.specs.Row.{Row, tail_words}
-use Rattle.grammar.specs.Term.{AtomOf, atom_words, unary_words, operand_words, comma_word}
+use Rattle.grammar.specs.Row.{Row}
+use Rattle.grammar.specs.Parts.{maybe_gives, further}
+use Rattle.grammar.specs.Term.{AtomOf, atom_words, unary_words, operand_words}
 use Rattle.grammar.specs.Shape.{unary_shape, operand_shape}
-use Rattle.grammar.specs.Sight.{Sighting, of_atom, seen, size, along, along_tail, term_sights, atom_sights, unary_sights, operand_sights}
-use Rattle.grammar.specs.Theory.{FullTerm, ConditionOf, holds, compares, GivenOf, no_colon, colon, given, ElementOf, TheoryOf, full_words, condition_words, duration_words, element_words, elements_words}
+use Rattle.grammar.specs.Sight.{Sighting, of_atom, seen, size, along, term_sights, atom_sights, unary_sights, operand_sights}
+use Rattle.grammar.specs.Theory.{FullTerm, ConditionOf, holds, compares, PlacesOf, GivenOf, ElementOf, TheoryOf, full_words, condition_words, duration_words, places_words, element_words, elements_words}
 use Rattle.grammar.specs.Statement.{LiteralOf, simple, theory, BodyOf, ChosenOf, ChoiceOf, HeadOf, atom_head, choice_head, theory_head, ArrowOf, no_arrow, arrow, StatementOf, headed, constraint, constant, show_nothing, show, StatementAt, literal_words, left_words, chosen_words, chosens_words, maybe_rel_words, head_words}
 
 -- ---- places inside a form that begins at one
@@ -20,7 +21,7 @@ module _ {D R : Type 0} (words : D → List Word → List Word) where
   behind_duration element at = behind_first element at + size (duration_words words) element.duration
 
   abbrev pub behind_rest : ElementOf D R → ℕ → ℕ
-  behind_rest element at = behind_duration element at + length (tail_words (full_words {R = R} words) comma_word element.rest [])
+  behind_rest element at = behind_duration element at + size (places_words words) element.rest
 
   -- where the closing brace of a theory atom stands
   abbrev pub theory_brace : TheoryOf D R → ℕ → ℕ
@@ -47,26 +48,24 @@ module _ {D R : Type 0} (words : D → List Word → List Word) (shape : D → S
   condition_sights (compares left r right) at = full_sights left at ++ full_sights right (at + size (full_words {R = R} words) left + 1)
 
   abbrev pub given_sights : GivenOf D R → ℕ → List Sighting
-  given_sights no_colon at = []
-  given_sights colon at = []
-  given_sights (given conditions) at = along condition_sights (size (condition_words words)) conditions (at + 1)
+  given_sights = maybe_gives (further (maybe_gives (along condition_sights (size (condition_words words)))))
 
   abbrev pub duration_sights : Option (FullTerm D R) → ℕ → List Sighting
-  duration_sights None at = []
-  duration_sights (Some term) at = full_sights term (at + 1)
+  duration_sights = maybe_gives (further full_sights)
+
+  abbrev pub places_sights : Option (PlacesOf D R) → ℕ → List Sighting
+  places_sights = maybe_gives (further (along full_sights (size (full_words words))))
 
   abbrev pub element_sights : ElementOf D R → ℕ → List Sighting
   element_sights element at =
       full_sights element.first at ++ duration_sights element.duration (behind_first words element at)
-      ++ along_tail full_sights (size (full_words words)) element.rest (behind_duration words element at) ++ given_sights element.condition (behind_rest words element at)
+      ++ places_sights element.rest (behind_duration words element at) ++ given_sights element.condition (behind_rest words element at)
 
   abbrev pub elements_sights : Option (Row (ElementOf D R) (Unit {0})) → ℕ → List Sighting
-  elements_sights None at = []
-  elements_sights (Some row) at = along element_sights (size (element_words words)) row at
+  elements_sights = maybe_gives (along element_sights (size (element_words words)))
 
   abbrev pub guard_sights : Option (Rel × FullTerm D R) → ℕ → List Sighting
-  guard_sights None at = []
-  guard_sights (Some guard) at = full_sights guard.1 (at + 1)
+  guard_sights = maybe_gives (further (λ guard. full_sights guard.1))
 
   abbrev pub theory_sights : TheoryOf D R → ℕ → List Sighting
   theory_sights a at = elements_sights a.elements (at + 3) ++ guard_sights a.guard (theory_brace words a at + 1)

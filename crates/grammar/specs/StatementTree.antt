@@ -17,7 +17,7 @@ use Rattle.syntax_tree.specs.declared.rule.ChoiceElement.{ChoiceElement}
 use Rattle.grammar.specs.Row.{Row}
 use Rattle.grammar.specs.Term.{UnaryOf}
 use Rattle.grammar.specs.Tree.{term_tree, atom_tree}
-use Rattle.grammar.specs.Theory.{FullTerm, ConditionOf, holds, compares, GivenOf, no_colon, colon, given, ElementOf, TheoryOf}
+use Rattle.grammar.specs.Theory.{FullTerm, ConditionOf, holds, compares, GivenOf, ElementOf, TheoryOf}
 use Rattle.grammar.specs.Statement.{LiteralOf, simple, theory, BodyOf, ChosenOf, ChoiceOf, HeadOf, atom_head, choice_head, theory_head, ArrowOf, no_arrow, arrow}
 
 -- the items of a row
@@ -52,9 +52,8 @@ module _ {D R : Type 0} (inner : D → Term) (operand : UnaryOf D R → Term) wh
   condition_tree (compares left r right) = literal.Compare (full_tree left) r (full_tree right)
 
   abbrev pub given_trees : GivenOf D R → List Literal
-  given_trees no_colon = []
-  given_trees colon = []
-  given_trees (given conditions) = items condition_tree conditions
+  given_trees None = []
+  given_trees (Some conditions) = items_of condition_tree conditions
 
   abbrev pub maybe_tree : Option (FullTerm D R) → Option Term
   maybe_tree None = None
@@ -67,7 +66,7 @@ module _ {D R : Type 0} (inner : D → Term) (operand : UnaryOf D R → Term) wh
   element_tree element = roll-TheoryElement (record {
     first = full_tree element.first;
     duration = maybe_tree element.duration;
-    rest = map (λ p. full_tree p.1) element.rest;
+    rest = items_of full_tree element.rest;
     condition = given_trees element.condition;
   })
 

@@ -1,10 +1,10 @@
 -- Conditions and theory atoms as they are written.
 --   clit   = [ "not" ] atom | term REL term
 --   cond   = clit {{ "," clit }}
---   telem  = term [ "@" term ] {{ "," term }} [ ":" [ cond ] ]
+--   telem  = term [ "@" term ] [ "," term {{ "," term }} ] [ ":" [ cond ] ]
 --   theory = "&" ID "{" [ telem {{ ";" telem }} ] "}" [ REL term ]
 --   REL    = "=" | "!=" | "<" | "<=" | ">" | ">="
-use Rattle.std.specs.Prelude.{ℕ, Bool, true, false, ◌||◌, if◌then◌else◌, Option, Some, None, List, [], ◌∷◌}
+use Rattle.std.specs.Prelude.{ℕ, Bool, true, false, if◌then◌else◌, Option, Some, None, List, ◌∷◌}
 use Rattle.std.specs.Option.{is_some}
 use Rattle.symbols.specs.declared.rel.Rel.{Rel}
 use Rattle.symbols.specs.declared.rel.Rel.TheVariants as rel
@@ -12,8 +12,9 @@ use Rattle.grammar.specs.declared.mark.Mark.{Mark}
 use Rattle.grammar.specs.declared.mark.Mark.TheVariants as m
 use Rattle.grammar.specs.Word.{Word, is_word}
 use Rattle.grammar.specs.Word as word
-use Rattle.grammar.specs.Row.{Row, row_words, tail_words}
-use Rattle.grammar.specs.Term.{TermOf, AtomOf, UnaryOf, alone, atom, term_words, atom_words, unary_words, term_goes_on, unary_goes_on, comma_word}
+use Rattle.grammar.specs.Row.{Row, row_words}
+use Rattle.grammar.specs.Parts.{maybe_words, marked_words, signed_words, maybe_goes_on}
+use Rattle.grammar.specs.Term.{TermOf, AtomOf, UnaryOf, Operand, Room, term_words, atom_words, unary_words, term_goes_on, unary_goes_on, comma_word}
 
 abbrev pub rel_mark : Rel → Mark
 rel_mark rel.Equal = m.Equal
@@ -52,16 +53,18 @@ pub data ConditionOf (D R : Type 0) : Type 0 where
   holds : Bool → AtomOf D → ConditionOf D R
   compares : FullTerm D R → Rel → FullTerm D R → ConditionOf D R
 
+-- terms with commas between them
+abbrev pub PlacesOf : Type 0 → Type 0 → Type 0
+PlacesOf D R = Row (FullTerm D R) (Unit {0})
+
 -- what may stand behind an element: nothing, `:`, or `:` and a condition
-pub data GivenOf (D R : Type 0) : Type 0 where
-  no_colon : GivenOf D R
-  colon : GivenOf D R
-  given : Row (ConditionOf D R) (Unit {0}) → GivenOf D R
+abbrev pub GivenOf : Type 0 → Type 0 → Type 0
+GivenOf D R = Option (Option (Row (ConditionOf D R) (Unit {0})))
 
 pub record ElementOf (D R : Type 0) : Type 0 where
   pub first : FullTerm D R
   pub duration : Option (FullTerm D R)
-  pub rest : List (Unit {0} × FullTerm D R)
+  pub rest : Option (PlacesOf D R)
   pub condition : GivenOf D R
 
 pub record TheoryOf (D R : Type 0) : Type 0 where
@@ -80,24 +83,22 @@ module _ {D R : Type 0} (inner : D → List Word → List Word) where
   condition_words (compares left r right) rest = full_words left (rel_word r ∷ full_words right rest)
 
   abbrev pub given_words : GivenOf D R → List Word → List Word
-  given_words no_colon rest = rest
-  given_words colon rest = word.mark m.Colon ∷ rest
-  given_words (given conditions) rest = word.mark m.Colon ∷ row_words condition_words comma_word conditions rest
+  given_words = maybe_words (marked_words m.Colon (maybe_words (row_words condition_words comma_word)))
 
   abbrev pub duration_words : Option (FullTerm D R) → List Word → List Word
-  duration_words None rest = rest
-  duration_words (Some term) rest = word.mark m.At ∷ full_words term rest
+  duration_words = maybe_words (marked_words m.At full_words)
+
+  abbrev pub places_words : Option (PlacesOf D R) → List Word → List Word
+  places_words = maybe_words (marked_words m.Comma (row_words full_words comma_word))
 
   abbrev pub element_words : ElementOf D R → List Word → List Word
-  element_words element rest = full_words element.first (duration_words element.duration (tail_words full_words comma_word element.rest (given_words element.condition rest)))
+  element_words element rest = full_words element.first (duration_words element.duration (places_words element.rest (given_words element.condition rest)))
 
   abbrev pub elements_words : Option (Row (ElementOf D R) (Unit {0})) → List Word → List Word
-  elements_words None rest = rest
-  elements_words (Some row) rest = row_words element_words semicolon_word row rest
+  elements_words = maybe_words (row_words element_words semicolon_word)
 
   abbrev pub guard_words : Option (Rel × FullTerm D R) → List Word → List Word
-  guard_words None rest = rest
-  guard_words (Some guard) rest = rel_word guard.0 ∷ full_words guard.1 rest
+  guard_words = maybe_words (signed_words rel_word full_words)
 
   abbrev pub theory_words : TheoryOf D R → List Word → List Word
   theory_words theory rest = word.mark m.And ∷ word.name theory.name ∷ word.mark m.OpenBrace ∷ elements_words theory.elements (word.mark m.CloseBrace ∷ guard_words theory.guard rest)
@@ -107,19 +108,12 @@ module _ {D R : Type 0} (inner : D → Word → Bool) where
   abbrev pub full_goes_on : FullTerm D R → Word → Bool
   full_goes_on = term_goes_on (unary_goes_on inner)
 
-  -- an atom as a term
-  abbrev pub atom_term : AtomOf D → FullTerm D R
-  atom_term a = alone (record { first = record { first = atom a; rest = [] }; rest = [] })
-
-  -- behind an atom a comparison may still go on; behind `not` only the atom
-  abbrev pub condition_goes_on : ConditionOf D R → Word → Bool
-  condition_goes_on (holds true a) next = full_goes_on (atom_term a) next || is_some (relation next)
-  condition_goes_on (holds false a) next = unary_goes_on {R = R} inner (atom a) next
-  condition_goes_on (compares left r right) next = full_goes_on right next
-
   abbrev pub guard_goes_on : Option (Rel × FullTerm D R) → Word → Bool
-  guard_goes_on None next = is_some (relation next)
-  guard_goes_on (Some guard) next = full_goes_on guard.1 next
+  guard_goes_on = maybe_goes_on (λ next. is_some (relation next)) (λ guard next. full_goes_on guard.1 next)
 
   abbrev pub theory_goes_on : TheoryOf D R → Word → Bool
   theory_goes_on theory next = guard_goes_on theory.guard next
+
+-- theory atoms that nest at most n deep
+abbrev pub TheoryAt : ℕ → Type 0
+TheoryAt n = TheoryOf (Operand n) (Room n)

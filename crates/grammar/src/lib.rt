@@ -5,12 +5,14 @@
 //! read as that form and no other. Stands on `lexer` for tokens and on `syntax_tree` for trees.
 #![tactic(auto)]
 
+mod check;
 mod law;
 mod mark;
 mod shape;
 mod words;
 
-pub use law::one_term;
+pub use check::{Check, Failing, sooner};
+pub use law::{one_term, one_theory};
 pub use mark::Mark;
 pub use shape::Shape;
 pub use words::{WordKind, bytes_at, is_mark, number_of, string_content, word_at};
