@@ -5,3 +5,11 @@ pub mod TermReads
 pub mod OperandReads
 pub mod Loops
 pub mod ParseLemmas
+pub mod PartReads
+pub mod ConditionReads
+pub mod RowReads
+pub mod MissingReads
+pub mod ElementReads
+pub mod TheoryReads
+pub mod FirstFails
+pub mod TheoryLemmas

@@ -41,7 +41,7 @@ fn place_of(text: &[u8], tokens: &[Token], at: usize) -> usize
 }
 
 // A fault at a word.
-fn fault_at(text: &[u8], tokens: &[Token], at: usize, cause: ParseCause) -> ParseFault
+pub(crate) fn fault_at(text: &[u8], tokens: &[Token], at: usize, cause: ParseCause) -> ParseFault
     ensures { result ≡ record { at = place_there text.now tokens.now at; cause = cause } }
 {
     ParseFault {
@@ -69,7 +69,7 @@ fn is_atom(shape: Shape) -> bool
     }
 }
 
-fn stopped(text: &[u8], tokens: &[Token], stop: Stop) -> ParseStop
+pub(crate) fn stopped(text: &[u8], tokens: &[Token], stop: Stop) -> ParseStop
     ensures { result ≡ spec.stopped text.now tokens.now stop }
 {
     match stop {

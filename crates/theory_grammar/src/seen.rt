@@ -1,7 +1,8 @@
 // What was seen while reading.
-ghost use Rattle.std.specs.Prelude.{◌≡◌, ◌<◌, ◌≤◌, ◌++◌, ◌∷◌, [], length, OnOk, IfOk};
+ghost use Rattle.std.specs.Prelude.{◌≡◌, ◌<◌, ◌≤◌, ◌++◌, ◌∷◌, [], length, take, drop, OnOk, IfOk};
+ghost use Rattle.grammar.specs.Check.{places_where};
 ghost use Rattle.grammar.specs.Tree.{number_of};
-ghost use Rattle.theory_grammar.specs.State.{lesser, refused, start_of, argued, with_name};
+ghost use Rattle.theory_grammar.specs.State.{lesser, least, refused, start_of, argued, with_name};
 
 use crate::names::number_for;
 use crate::places::insert;
@@ -77,6 +78,24 @@ impl Seen {
         ensures { self.new ≡ record self.old { bad = refused self.old.bad shape at } }
     {
         if let Shape::Interval = shape {
+            self.bad = lesser(self.bad, at);
+        }
+    }
+
+    // Notes an atom, before what was noted inside it.
+    pub(crate) fn enter(&mut self, before: usize, tokens: &[Token], at: usize) -> Result<(), Memory>
+        requires before { before ≤ length self.old.places }
+        requires at { at < length tokens.now }
+        ensures { OnOk result (self.new ≡ record self.old { places = take before self.old.places ++ start_of tokens.now at ∷ drop before self.old.places }) }
+    {
+        insert(&mut self.places, before, tokens[at].start)
+    }
+
+    // Notes a word where a check fails, if it does.
+    pub(crate) fn fail_at(&mut self, fails: bool, at: usize)
+        ensures { self.new ≡ record self.old { bad = least self.old.bad (places_where fails at) } }
+    {
+        if fails {
             self.bad = lesser(self.bad, at);
         }
     }

@@ -174,7 +174,7 @@ fn anonymous(
 
 // The name at a place, and its arguments.
 #[cycle(term)]
-fn named(
+pub(crate) fn named(
     alloc: Global,
     text: &[u8],
     tokens: &[Token],
