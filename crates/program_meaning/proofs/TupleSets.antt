@@ -302,6 +302,10 @@ flag_of symbols flags id once known same = (
 
 -- ---- one flag more
 
+-- a flag that was not set makes a difference
+pub set_differs : (flags : List Bool) (id : ℕ) (d : Bool) → id < length flags → slice_index_or flags id d ≡ false → slice_set flags id true ≡ flags → ⊥
+set_differs flags id d below off e = true≢false (sym (get_or-set_same flags id true d below) ∙ ap (λ all. slice_index_or all id d) e ∙ off)
+
 set_at : (flags : List Bool) (id other : ℕ) → slice_index_or (slice_set flags id true) other false ≡ true → (slice_index_or flags other false ≡ true) ⊎ (other ≡ id)
 set_at [] id other e = inl e
 set_at (flag ∷ flags) zero zero e = inr refl
