@@ -7,3 +7,4 @@ pub mod GrowthLaws
 pub mod AssignmentLaws
 pub mod SinceLaws
 pub mod EntryLaws
+pub mod ReplacedLaws

@@ -47,6 +47,14 @@ lower_of ends lits x = fold (lower_after x) ends.min lits
 abbrev pub upper_of : Ends → List Lit → ℕ → ℤ
 upper_of ends lits x = fold (upper_after x) ends.max lits
 
+-- the bound that the literal replaces, where these stand before it: none where it is no bound
+abbrev pub bound_before : Ends → List Lit → Lit → Option ℤ
+bound_before ends before (Atom n sign) = None
+bound_before ends before (Body n sign) = None
+bound_before ends before (Constraint n sign) = None
+bound_before ends before (AtMost x k) = Some (upper_of ends before x)
+bound_before ends before (AtLeast x k) = Some (lower_of ends before x)
+
 -- the place of the first of these that implies the literal, where the list begins at this place
 abbrev pub first_from : ℕ → List Lit → Lit → Option ℕ
 first_from place [] l = None

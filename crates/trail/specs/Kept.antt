@@ -64,6 +64,14 @@ abbrev pub Saved : Ends → List Lit → List Slot → Type 0
 Saved ends before [] = Unit {0}
 Saved ends before (t ∷ ts) = SavesBound ends before t.entry.lit t.saved × (t.mark ≡ latest before t.entry.lit) × Saved ends (before ++ t.entry.lit ∷ []) ts
 
+-- what the slot of this literal saves: nothing where it is no bound
+abbrev pub bound_saved : Lit → ℤ → Option ℤ
+bound_saved (Atom n sign) saved = None
+bound_saved (Body n sign) saved = None
+bound_saved (Constraint n sign) saved = None
+bound_saved (AtMost x k) saved = Some saved
+bound_saved (AtLeast x k) saved = Some saved
+
 -- the entries of these slots
 abbrev pub entries_of : List Slot → List Entry
 entries_of slots = map (λ t. t.entry) slots

@@ -1,4 +1,7 @@
 // What stands on a trail.
+ghost use Rattle.std.specs.Prelude.{◌≡◌};
+ghost use Rattle.trail.specs.Kept.{bound_saved};
+
 use literals::{Lit, Reason};
 
 /// Why a literal was set.
@@ -38,4 +41,15 @@ pub(crate) struct Slot {
     pub(crate) entry: Entry,
     pub(crate) saved: i32,
     pub(crate) mark: Option<usize>,
+}
+
+/// The bound that the slot's entry replaced, where it is a bound.
+#[inline]
+pub(crate) fn replaced_by(slot: &Slot) -> Option<i32>
+    ensures { result ≡ bound_saved slot.now.entry.lit slot.now.saved }
+{
+    match slot.entry.lit {
+        Lit::Atom(..) | Lit::Body(..) | Lit::Constraint(..) => None,
+        Lit::AtMost(..) | Lit::AtLeast(..) => Some(slot.saved),
+    }
 }

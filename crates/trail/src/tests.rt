@@ -59,5 +59,8 @@ fn knows_since_when(rt: HostRuntime) -> Result<(), Fail> {
     assert_eq!(rt; trail.since(Lit::Atom(2, false)), Some(1));
     assert_eq!(rt; trail.since(Lit::Atom(2, true)), None);
     assert_eq!(rt; trail.entry(1).lit, Lit::Atom(2, false));
+    assert_eq!(rt; trail.replaced(0), Some(9));
+    assert_eq!(rt; trail.replaced(1), None);
+    assert_eq!(rt; trail.replaced(3), Some(4));
     Ok(())
 }

@@ -1,10 +1,12 @@
 // The trail.
-ghost use Rattle.std.specs.Prelude.{◌≡◌, ◌<◌, ◌≤◌, ◌+◌, [], length, slice_get, Some, IfOk, OnOk, OnErr};
-ghost use Rattle.trail.specs.Assignment.{Assignment, truth_on, lower_on, upper_on, since_on, Names, undone_to, Places, orders_with, IsAssignment};
+ghost use Rattle.std.specs.Prelude.{◌≡◌, ◌<◌, ◌≤◌, ◌+◌, [], length, slice_get, take, Some, IfOk, OnOk, OnErr};
+ghost use Rattle.trail.specs.declared.entry.Entry.{Entry};
+ghost use Rattle.trail.specs.Implied.{bound_before};
+ghost use Rattle.trail.specs.Assignment.{Assignment, lits_of, truth_on, lower_on, upper_on, since_on, Names, undone_to, Places, orders_with, IsAssignment};
 ghost use Rattle.trail.specs.Kept.{IsBoundOf};
 
 use crate::cells::Cells;
-use crate::entry::{Entry, Placed, Slot, Why};
+use crate::entry::{Entry, Placed, Slot, Why, replaced_by};
 use crate::shape::Shape;
 use crate::since::{first_of, is_by_ends};
 use crate::undo::{drop_last, pop_above, take_back};
@@ -100,6 +102,16 @@ impl Trail {
         ensures { slice_get self.now.entries index ≡ Some result.now }
     {
         &self.slots[index].entry
+    }
+
+    /// The bound of its variable that stood before the entry at a place: nothing where the entry is no
+    /// bound. O(1).
+    #[inline]
+    pub fn replaced(&self, index: usize) -> Option<i32>
+        requires { index < length self.now.entries }
+        ensures { (e : Entry) → slice_get self.now.entries index ≡ Some e → result ≡ bound_before self.now.shape.ends (take index (lits_of self.now.entries)) e.lit }
+    {
+        replaced_by(&self.slots[index])
     }
 
     /// The order literals that were made.
