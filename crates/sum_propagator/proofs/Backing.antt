@@ -222,7 +222,7 @@ pub item_least : (b : Bounds) (i : Item) → least_times (signed_by true (coeffi
 item_least b (Value x c) = refl
 item_least b (Truth n c) = refl
 
-item_greatest : (b : Bounds) (i : Item) → greatest_times (signed_by true (coefficient_of i)) (low_in b i) (high_in b i) ≡ greatest_item b i
+pub item_greatest : (b : Bounds) (i : Item) → greatest_times (signed_by true (coefficient_of i)) (low_in b i) (high_in b i) ≡ greatest_item b i
 item_greatest b (Value x c) = refl
 item_greatest b (Truth n c) = refl
 

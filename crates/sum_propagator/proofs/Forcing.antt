@@ -106,7 +106,7 @@ high_off t l (Value x c) e = fold-push (lowered x) t.shape.ends.max (lits_of t.e
 high_off t l (Truth n c) e = fold-push (discounted n) (pos 1) (lits_of t.entries) l ∙ discounted_off n c ((bounds_on t).greatest n) l e
 
 -- an item of which the literal does not speak is as it was
-other_item : (t : Assignment) (side : Bool) (l : Lit) (i : Item) → touches l i ≡ false → side_least side (bounds_with t l) i ≡ side_least side (bounds_on t) i
+pub other_item : (t : Assignment) (side : Bool) (l : Lit) (i : Item) → touches l i ≡ false → side_least side (bounds_with t l) i ≡ side_least side (bounds_on t) i
 other_item t side l i e = rw (low_off t l i e, high_off t l i e) refl
 
 pub other_items : (t : Assignment) (side : Bool) (l : Lit) (items : List Item) → AllByRecursion (λ i. touches l i ≡ false) items → side_sum side (bounds_with t l) items ≡ side_sum side (bounds_on t) items
@@ -201,7 +201,7 @@ this_item t side l i slack h o r =
     on x y z e f = omega (arith, ints, e, f)
 
 -- what speaks of one item speaks of no other
-not_both : (l : Lit) (i j : Item) → touches l i ≡ true → same_counted i j ≡ false → touches l j ≡ false
+pub not_both : (l : Lit) (i j : Item) → touches l i ≡ true → same_counted i j ≡ false → touches l j ≡ false
 not_both (AtMost y k) (Value x c) (Value z d) = λ h g. grind (arith, nat_tests)
 not_both (AtLeast y k) (Value x c) (Value z d) = λ h g. grind (arith, nat_tests)
 not_both (Constraint m s) (Truth n c) (Truth o d) = λ h g. grind (arith, nat_tests)
@@ -210,7 +210,7 @@ not_both (AtLeast y k) (Value x c) (Truth z d) = λ h g. refl
 not_both (Constraint m s) (Truth n c) (Value o d) = λ h g. refl
 not_both _ _ _ = λ h g. cc
 
-none_after : (l : Lit) (i : Item) (is : List Item) → touches l i ≡ true → AllByRecursion (λ j. same_counted i j ≡ false) is → AllByRecursion (λ j. touches l j ≡ false) is
+pub none_after : (l : Lit) (i : Item) (is : List Item) → touches l i ≡ true → AllByRecursion (λ j. same_counted i j ≡ false) is → AllByRecursion (λ j. touches l j ≡ false) is
 none_after l i [] h a = tt
 none_after l i (j ∷ js) h a = (not_both l i j h a.0, none_after l i js h a.1)
 

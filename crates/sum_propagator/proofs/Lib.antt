@@ -7,3 +7,6 @@ mod Forcing
 mod Few
 mod Settling
 mod TestLaws
+mod Widths
+mod Moving
+mod Following

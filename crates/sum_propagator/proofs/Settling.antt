@@ -4,7 +4,6 @@ use Rattle.std.specs.Prelude.{int_le, int_lt}
 use Rattle.std.specs.List.{AllByRecursion, Contains, list_any}
 use Rattle.std.proofs.lemmas.Bool.Decides.{nat_tests}
 use Rattle.std.proofs.lemmas.Int.{ints}
-use Rattle.std.proofs.lemmas.List.{take_all}
 use Rattle.std.proofs.lemmas.List.Elements.{All-from_recursion, All-contains, recursion_from_All}
 use Rattle.symbols.specs.declared.ends.Ends.{Ends}
 use Rattle.literals.specs.declared.lit.Lit.{Lit}
@@ -27,10 +26,8 @@ use Rattle.trail.specs.Forced.{AllTrueOn, AllButOpen}
 use Rattle.trail.proofs.ImpliedLaws.{open_is, truth-of}
 use Rattle.trail.proofs.AssignmentLaws.{agree_on, true-truth, false-truth}
 use Rattle.propagator_core.specs.Meaning.{Meaning}
-use Rattle.propagator_core.specs.Standing.{StandsFor}
 use Rattle.propagator_core.specs.Shown.{IsShown, IsConflict}
 use Rattle.propagator_core.specs.Quiet.{IsDecided, IsQuiet}
-use Rattle.propagator_core.proofs.SeveralLaws.{stands_on}
 use Rattle.sum_propagator.specs.declared.sum.Totals.{Totals}
 use Rattle.sum_propagator.specs.Sums.{are_items, counts_truth, is_item_of, fits_sum, valid_sum, settled_sum, sum_meaning, bounds_on, totals_after}
 use Rattle.sum_propagator.specs.Sides.{low_in, high_in, limit_of, side_sum, Rests}
@@ -300,20 +297,12 @@ quiet_open t number items most h i fit un yea nay = record {
 
 -- STATE
 
-total_kept : (items : List Item) (ends : Ends) (es : List Entry) (kept : Option Totals) (totals : Totals) → (length es ≡ 0 → kept ≡ None) → (0 < length es → kept ≡ Some totals) → totals.least ≡ least_sum (bounds_named ends (lits_of es)) items → totals.greatest ≡ greatest_sum (bounds_named ends (lits_of es)) items → kept ≡ totals_after items ends es
+pub total_kept : (items : List Item) (ends : Ends) (es : List Entry) (kept : Option Totals) (totals : Totals) → (length es ≡ 0 → kept ≡ None) → (0 < length es → kept ≡ Some totals) → totals.least ≡ least_sum (bounds_named ends (lits_of es)) items → totals.greatest ≡ greatest_sum (bounds_named ends (lits_of es)) items → kept ≡ totals_after items ends es
 total_kept items ends [] kept totals z s f g = z refl
 total_kept items ends (x ∷ xs) kept totals z s f g = s (omega arith) ∙ ap Some (same totals f g)
   where
     same : (totals : Totals) → totals.least ≡ least_sum (bounds_named ends (lits_of (x ∷ xs))) items → totals.greatest ≡ greatest_sum (bounds_named ends (lits_of (x ∷ xs))) items → totals ≡ record { least = least_sum (bounds_named ends (lits_of (x ∷ xs))) items; greatest = greatest_sum (bounds_named ends (lits_of (x ∷ xs))) items }
     same totals f g = rw (← f, ← g) refl
-
--- what is kept stands for the trail on which it was taken, and for what it grew to
-pub stands_now : (P : Assignment → Entry → Type 0) (t new : Assignment) (items : List Item) (kept : Option Totals) (totals : Totals) (seen : ℕ) → Grows P t new → seen ≡ length t.entries → (seen ≡ 0 → kept ≡ None) → (0 < seen → kept ≡ Some totals) → totals.least ≡ least_sum (bounds_on t) items → totals.greatest ≡ greatest_sum (bounds_on t) items → StandsFor (λ ends entries. kept ≡ totals_after items ends entries) seen new
-stands_now P t new items kept totals seen g e z s f h = stands_on P (λ ends entries. kept ≡ totals_after items ends entries) seen t new g (record {
-  within = omega (arith, e);
-  for_these = subst (λ (es : List Entry). kept ≡ totals_after items t.shape.ends es) (sym (take_all seen t.entries (omega (arith, e))))
-      (total_kept items t.shape.ends t.entries kept totals (λ n. z (e ∙ n)) (λ lt. s (omega (arith, e, lt))) f h);
-})
 
 pub above_here : (m k x y : ℤ) → k ≡ m → x ≡ y → k <ℤ x → m <ℤ y
 above_here m k x y e f h = omega (arith, ints, e, f, h)

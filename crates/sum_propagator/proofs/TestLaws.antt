@@ -1,5 +1,5 @@
 -- What the tests carry from call to call.
-use Rattle.std.proofs.Common.{◌≡◌, ℕ, IsTrue, sym, subst, arith, take, List, [], ℤ, Option}
+use Rattle.std.proofs.Common.{◌≡◌, ℕ, IsTrue, sym, subst, arith, take, List, [], ℤ}
 use Rattle.symbols.specs.declared.ends.Ends.{Ends}
 use Rattle.literals.specs.declared.lit.Lit.{Lit}
 use Rattle.linear_normal.specs.declared.constraint.Item.{Item}
@@ -14,8 +14,7 @@ use Rattle.trail.proofs.GrowthLaws.{grows_set, grows_shape}
 use Rattle.propagator_core.specs.Meaning.{Meaning}
 use Rattle.propagator_core.specs.Standing.{StandsFor}
 use Rattle.propagator_core.proofs.SeveralLaws.{stands_on}
-use Rattle.sum_propagator.specs.Sums.{fits_sum, sum_meaning, totals_after}
-use Rattle.sum_propagator.specs.declared.sum.Totals.{Totals}
+use Rattle.sum_propagator.specs.Sums.{fits_sum, sum_meaning}
 
 pub fits_again : (P : Assignment → Entry → Type 0) (n p : ℕ) (is js : List Item) (k l : ℤ) (a b : Assignment) → sum_meaning p js l ≡ sum_meaning n is k → Grows P a b → IsTrue (fits_sum n is a.shape) → IsTrue (fits_sum p js b.shape)
 fits_again P n p is js k l a b e g h = subst (λ (s : Shape). IsTrue (fits_sum p js s)) (sym (grows_shape P a b g)) (subst (λ (m : Meaning). IsTrue (m.fits a.shape)) (sym e) h)
@@ -28,10 +27,10 @@ stands_set stands seen a b l why Already n h s = subst (λ (t : Assignment). Sta
 stands_set stands seen a b l why Clash n h s = subst (λ (t : Assignment). StandsFor stands seen t) (sym h.1) s
 stands_set stands seen a b l why Done n h s = stands_on (λ t e. Unit {0}) stands seen a b (grows_set (λ t e. Unit {0}) a b l why n h tt) s
 
-pub stands_new : (totals : Option Totals) (items : List Item) (seen : ℕ) (t : Assignment) → seen ≡ 0 → ((e : Ends) → totals ≡ totals_after items e []) → StandsFor (λ ends entries. totals ≡ totals_after items ends entries) seen t
-stands_new totals items seen t e h = record {
+pub stands_new : (stands : Ends → List Entry → Type 0) (seen : ℕ) (t : Assignment) → seen ≡ 0 → ((e : Ends) → stands e []) → StandsFor stands seen t
+stands_new stands seen t e h = record {
   within = omega (arith, e);
-  for_these = subst (λ (n : ℕ). totals ≡ totals_after items t.shape.ends (take n t.entries)) (sym e) (h t.shape.ends);
+  for_these = subst (λ (n : ℕ). stands t.shape.ends (take n t.entries)) (sym e) (h t.shape.ends);
 }
 
 pub fits_shape : (n : ℕ) (is : List Item) (a b : Shape) → b ≡ a → IsTrue (fits_sum n is a) → IsTrue (fits_sum n is b)

@@ -1,3 +1,4 @@
 pub mod Sums
 pub mod Sides
 pub mod Reasons
+pub mod Moves

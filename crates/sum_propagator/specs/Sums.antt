@@ -1,6 +1,6 @@
 -- What a propagator of a sum stands for.
-use Rattle.std.specs.Prelude.{ℕ, ◌==◌, Bool, true, false, not, ◌&&◌, ◌||◌, ℤ, int_le, int_lt, List, [], ◌∷◌, Option, None, Some}
-use Rattle.std.specs.List.{list_all, list_any}
+use Rattle.std.specs.Prelude.{◌≡◌, ◌+ℤ◌, ◌≤ℤ◌, pos, IfSome, ℕ, ◌==◌, Bool, true, false, not, ◌&&◌, ◌||◌, ℤ, int_le, int_lt, List, [], ◌∷◌, Option, None, Some}
+use Rattle.std.specs.List.{All, list_all, list_any}
 use Rattle.symbols.specs.declared.ends.Ends.{Ends}
 use Rattle.literals.specs.declared.lit.Lit.{Lit}
 use Rattle.literals.specs.declared.lit.Lit.TheVariants as l
@@ -10,7 +10,7 @@ use Rattle.literals.specs.declared.reason.Reason.{Reason}
 use Rattle.linear_normal.specs.declared.constraint.Item.{Item}
 use Rattle.linear_normal.specs.declared.constraint.Item.TheVariants.{Value, Truth}
 use Rattle.linear_normal.specs.declared.constraint.Constraint.TheVariants as c
-use Rattle.linear_normal.specs.Bounds.{Bounds, bounds_named, least_sum, greatest_sum}
+use Rattle.linear_normal.specs.Bounds.{Bounds, bounds_named, least_item, greatest_item, least_sum, greatest_sum}
 use Rattle.linear_normal.specs.Steps.{is_one_of, is_sum}
 use Rattle.trail.specs.declared.shape.Shape.{Shape}
 use Rattle.trail.specs.declared.entry.Entry.{Entry}
@@ -98,3 +98,15 @@ totals_after items ends (e ∷ es) = Some (record {
   least = least_sum (bounds_named ends (lits_of (e ∷ es))) items;
   greatest = greatest_sum (bounds_named ends (lits_of (e ∷ es))) items;
 })
+
+-- the item's greatest value is at most so much more than its least
+abbrev pub IsWithin : ℕ → Bounds → Item → Type 0
+IsWithin widest bounds item = greatest_item bounds item ≤ℤ (least_item bounds item +ℤ pos widest)
+
+-- where the number is known, each item's values lie within it
+abbrev pub AreWithin : Option ℕ → Bounds → List Item → Type 0
+AreWithin widest bounds items = IfSome widest (λ w. All (IsWithin w bounds) items)
+
+-- the totals are those after these entries, and the number, where it is known, holds after them
+abbrev pub StandsAt : List Item → Option Totals → Option ℕ → Ends → List Entry → Type 0
+StandsAt items totals widest ends entries = (totals ≡ totals_after items ends entries) × AreWithin widest (bounds_named ends (lits_of entries)) items

@@ -136,3 +136,19 @@ pub(crate) fn greatest_of(c: i128, range: Range) -> i128
         c * i128::from(range.low)
     }
 }
+
+/// How many steps there are from the least number to the greatest.
+pub(crate) fn width_of(range: Range) -> u32
+    ensures value { range.high ≡ range.low +ℤ pos result }
+    ensures small { result ≤ 2 ^ 31 }
+{
+    (i64::from(range.high) - i64::from(range.low)) as u32
+}
+
+/// How far apart a coefficient times the least and times the greatest number lie.
+pub(crate) fn swing(c: i128, range: Range) -> u128
+    requires { unsigned_abs c ≤ 2 ^ 63 }
+    ensures { greatest_times c range.low range.high ≤ℤ (least_times c range.low range.high +ℤ pos result) }
+{
+    c.unsigned_abs() * u128::from(width_of(range))
+}

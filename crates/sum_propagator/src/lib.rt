@@ -8,7 +8,9 @@
 #![tactic(auto)]
 
 mod item;
+mod moves;
 mod narrow;
+mod places;
 mod reason;
 mod sum;
 mod sum_propagator;

@@ -11,7 +11,7 @@ ghost use Rattle.sum_propagator.specs.Sums.{is_item_of, valid_sum, bounds_on, fi
 ghost use Rattle.sum_propagator.specs.Reasons.{IsNeeded};
 ghost use Rattle.sum_propagator.specs.Sides.{Narrows, Rests, limit_of, side_sum};
 
-use crate::item::{Range, greatest_lit, least_lit, range_on, signed};
+use crate::item::{Range, greatest_lit, least_lit, range_on, signed, width_of};
 use crate::reason::explain;
 use crate::sum::Sum;
 use linear_normal::Item;
@@ -31,14 +31,6 @@ fn room_in(width: u32, weight: u128, slack: u128) -> Option<u32>
         return None;
     }
     Some((slack / weight) as u32)
-}
-
-// How many steps there are from the least number to the greatest.
-fn width_of(range: Range) -> u32
-    ensures value { range.high ≡ range.low +ℤ pos result }
-    ensures small { result ≤ 2 ^ 31 }
-{
-    (i64::from(range.high) - i64::from(range.low)) as u32
 }
 
 // The literal by which the item, with this coefficient, stays within the slack: nothing where it does.

@@ -4,10 +4,11 @@ ghost use Rattle.std.specs.Int.RustNames.{unsigned_abs};
 ghost use Rattle.std.specs.List.{All};
 ghost use Rattle.trail.specs.Assignment.{IsAssignment};
 ghost use Rattle.linear_normal.specs.Bounds.{least_item, greatest_item, least_sum, greatest_sum};
-ghost use Rattle.sum_propagator.specs.Sums.{are_items, is_item_of, bounds_on};
+ghost use Rattle.sum_propagator.specs.Sums.{are_items, is_item_of, bounds_on, IsWithin};
+ghost use Rattle.sum_propagator.specs.Moves.{AreRising, AreCoefficients};
 ghost use Rattle.sum_propagator.specs.Sides.{AreSmall, limit_of, total_of};
 
-use crate::item::{greatest_of, least_of, number_in, range_on, signed};
+use crate::item::{greatest_of, least_of, number_in, range_on, signed, swing};
 use linear_normal::Item;
 use symbols::Listed;
 use trail::Trail;
@@ -18,9 +19,12 @@ pub(crate) struct Sum {
     pub(crate) number: u32,
     pub(crate) items: Listed<Item>,
     pub(crate) most: i128,
+    pub(crate) rising: bool,
     ghost are_items: { IsTrue (are_items number items) },
     ghost few: { length items ≤ 2 ^ 33 },
+    ghost coefficients: { AreCoefficients items },
     ghost limit: { unsigned_abs most ≤ 2 ^ 120 },
+    ghost are_rising: { IsTrue rising → AreRising items },
 }
 
 /// The least and the greatest sum.
@@ -38,6 +42,15 @@ pub(crate) fn few(number: u32, items: &[Item])
 {
     for item in items {
         let _number = number_in(*item);
+    }
+}
+
+/// Coefficients are small, since each has 64 bits.
+pub(crate) fn coefficients(items: &[Item])
+    ensures { AreCoefficients items.now }
+{
+    for item in items {
+        let _coefficient = signed(*item, true);
     }
 }
 
@@ -77,6 +90,30 @@ pub(crate) fn totals_on(trail: &Trail, items: &[Item]) -> Totals
         totals = with_item(trail, totals, *item);
     }
     totals
+}
+
+// The greater of the two: this number, and how far apart the item's values lie.
+fn wider(trail: &Trail, widest: u128, item: Item) -> u128
+    requires assignment { IsAssignment trail.now }
+    requires named { IsTrue (is_item_of trail.now.shape item) }
+    ensures more { widest ≤ result }
+    ensures within { IsWithin result (bounds_on trail.now) item }
+{
+    let width = swing(signed(item, true), range_on(trail, item));
+    if widest < width { width } else { widest }
+}
+
+/// How far apart an item's values lie at most.
+pub(crate) fn widest_on(trail: &Trail, items: &[Item]) -> u128
+    requires assignment { IsAssignment trail.now }
+    requires named { All (λ item. IsTrue (is_item_of trail.now.shape item)) items.now }
+    ensures { All (IsWithin result (bounds_on trail.now)) items.now }
+{
+    let mut widest = 0;
+    for item in items {
+        widest = wider(trail, widest, *item);
+    }
+    widest
 }
 
 /// The least sum, or that of the opposite sum.

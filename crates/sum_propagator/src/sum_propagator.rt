@@ -1,5 +1,5 @@
 // The propagator of a sum.
-ghost use Rattle.std.specs.Prelude.{◌≡◌, ◌<◌, ◌≤◌, ◌^◌, pos, ◌+ℤ◌, ◌≤ℤ◌, ◌<ℤ◌, length, Some, None, true, [], IsTrue, IfOk, OnOk};
+ghost use Rattle.std.specs.Prelude.{◌≡◌, ◌<◌, ◌≤◌, ◌^◌, pos, ◌+ℤ◌, ◌≤ℤ◌, ◌<ℤ◌, length, Some, None, true, [], IsTrue, IfOk, IsSomeAnd, OnOk};
 ghost use Rattle.std.specs.Int.RustNames.{unsigned_abs};
 ghost use Rattle.std.specs.Option.{ForSome};
 ghost use Rattle.symbols.specs.declared.ends.Ends.{Ends};
@@ -9,12 +9,15 @@ ghost use Rattle.trail.specs.Growth.{Grows};
 ghost use Rattle.propagator_core.specs.Shown.{IsShown};
 ghost use Rattle.propagator_core.specs.Quiet.{Answers};
 ghost use Rattle.propagator_core.specs.Standing.{StandsFor};
-ghost use Rattle.sum_propagator.specs.Sums.{are_items, bounds_on, fits_sum, valid_sum, sum_meaning, totals_after};
+ghost use Rattle.sum_propagator.specs.Sums.{are_items, bounds_on, fits_sum, valid_sum, sum_meaning, totals_after, AreWithin, StandsAt};
+ghost use Rattle.sum_propagator.specs.Moves.{AreRising};
 ghost use Rattle.sum_propagator.specs.Sides.{AreSmall, limit_of, side_sum};
 
+use crate::moves::totals_from;
 use crate::narrow::press;
+use crate::places::are_rising;
 use crate::reason::explain;
-use crate::sum::{Sum, Totals, excluded, few, limit, total, totals_on};
+use crate::sum::{Sum, Totals, coefficients, excluded, few, limit, total, totals_on, widest_on};
 use linear_normal::Item;
 use literals::Lit;
 use propagator_core::{Outcome, Propagator};
@@ -32,6 +35,16 @@ fn slack_of(limit: i128, total: i128) -> u128
     (limit - total).unsigned_abs()
 }
 
+// Whether it is known that all items' values lie no further apart than this.
+fn is_at_most(widest: Option<u128>, slack: u128) -> bool
+    ensures { IsTrue result → IsSomeAnd widest (λ w. w ≤ slack) }
+{
+    match widest {
+        Some(widest) => widest <= slack,
+        None => false,
+    }
+}
+
 // Answers for a constraint that is true on this side.
 fn decided(
     alloc: Global,
@@ -39,12 +52,15 @@ fn decided(
     sum: &Sum,
     side: bool,
     total: i128,
+    widest: &mut Option<u128>,
 ) -> Result<Outcome, Memory>
     requires assignment { IsAssignment trail.old }
     requires fits { IsTrue (fits_sum sum.now.number sum.now.items trail.old.shape) }
     requires on { truth_on trail.old (Lit.Constraint sum.now.number side) ≡ Some true }
     requires total { total ≡ side_sum side (bounds_on trail.old) sum.now.items }
     requires small { unsigned_abs total ≤ 2 ^ 126 }
+    requires widest { AreWithin widest.old (bounds_on trail.old) sum.now.items }
+    ensures widest { AreWithin widest.new (bounds_on trail.old) sum.now.items }
     ensures grows { Grows (IsShown (valid_sum sum.now.number sum.now.items sum.now.most)) trail.old trail.new }
     ensures answer { IfOk result (λ outcome. Answers (sum_meaning sum.now.number sum.now.items sum.now.most) trail.old trail.new outcome) }
 {
@@ -54,9 +70,14 @@ fn decided(
         let reason = explain(alloc, trail, sum, side, sum.items.len(), on)?;
         return Ok(Outcome::Conflict(reason));
     }
+    let slack = slack_of(limit, total);
+    if is_at_most(*widest, slack) {
+        return Ok(Outcome::Quiet);
+    }
     let before = trail.length();
-    press(alloc, trail, sum, side, slack_of(limit, total))?;
+    press(alloc, trail, sum, side, slack)?;
     if trail.length() == before {
+        *widest = Some(widest_on(trail, sum.items.items()));
         Ok(Outcome::Quiet)
     } else {
         Ok(Outcome::Narrowed)
@@ -79,17 +100,25 @@ fn settle(alloc: Global, trail: &mut Trail, sum: &Sum, side: bool) -> Result<(),
 }
 
 // Answers for these totals.
-fn answer(alloc: Global, trail: &mut Trail, sum: &Sum, totals: Totals) -> Result<Outcome, Memory>
+fn answer(
+    alloc: Global,
+    trail: &mut Trail,
+    sum: &Sum,
+    totals: Totals,
+    widest: &mut Option<u128>,
+) -> Result<Outcome, Memory>
     requires assignment { IsAssignment trail.old }
     requires fits { IsTrue (fits_sum sum.now.number sum.now.items trail.old.shape) }
     requires least { totals.least ≡ least_sum (bounds_on trail.old) sum.now.items }
     requires greatest { totals.greatest ≡ greatest_sum (bounds_on trail.old) sum.now.items }
     requires small { AreSmall totals }
+    requires widest { AreWithin widest.old (bounds_on trail.old) sum.now.items }
+    ensures widest { AreWithin widest.new (bounds_on trail.old) sum.now.items }
     ensures grows { Grows (IsShown (valid_sum sum.now.number sum.now.items sum.now.most)) trail.old trail.new }
     ensures answer { IfOk result (λ outcome. Answers (sum_meaning sum.now.number sum.now.items sum.now.most) trail.old trail.new outcome) }
 {
     match trail.truth(Lit::Constraint(sum.number, true)) {
-        Some(side) => decided(alloc, trail, sum, side, total(totals, side)),
+        Some(side) => decided(alloc, trail, sum, side, total(totals, side), widest),
         None => match excluded(sum.most, totals) {
             None => Ok(Outcome::Quiet),
             Some(side) => {
@@ -100,7 +129,16 @@ fn answer(alloc: Global, trail: &mut Trail, sum: &Sum, totals: Totals) -> Result
     }
 }
 
-// The totals on the trail: those that are kept where nothing is new, else anew.
+// Whether it costs less to take the totals on from so many new entries than to take them anew.
+fn are_few(sum: &Sum, new: usize) -> bool
+    ensures { IsTrue result → AreRising sum.now.items }
+{
+    sum.rising && new <= sum.items.len() / 8
+}
+
+// The totals on the trail: those that are kept where nothing is new, on from them where little is new,
+// else anew.
+#[tactic(auto, using(crate::proofs::Moving::totals_seen))]
 fn look(trail: &Trail, sum: &Sum, seen: usize, kept: Option<Totals>) -> Totals
     requires assignment { IsAssignment trail.now }
     requires fits { IsTrue (fits_sum sum.now.number sum.now.items trail.now.shape) }
@@ -112,6 +150,9 @@ fn look(trail: &Trail, sum: &Sum, seen: usize, kept: Option<Totals>) -> Totals
 {
     match kept {
         Some(totals) if seen == trail.length() => totals,
+        Some(totals) if are_few(sum, trail.length() - seen) => totals_from(
+            trail, sum, seen, totals,
+        ),
         _ => totals_on(trail, sum.items.items()),
     }
 }
@@ -126,12 +167,15 @@ fn kept(seen: usize, totals: Totals) -> Option<Totals>
 
 /// The constraint that a sum of items is at most a number, at work on a trail.
 ///
-/// It keeps the least and the greatest sum for the entries at which it has looked.
+/// It keeps the least and the greatest sum for the entries at which it has looked, and how far apart an
+/// item's values lie at most. A call takes the sums on from the new entries where they are few, and looks
+/// at the items one by one only where one of them may be forced.
 #[derive(Debug, Drop)]
 pub struct SumPropagator {
     sum: Sum,
     seen: usize,
     totals: Option<Totals>,
+    widest: Option<u128>,
     ghost small: { ForSome totals AreSmall },
 }
 
@@ -141,30 +185,34 @@ impl SumPropagator {
         requires { IsTrue (are_items number items) }
         ensures meaning { IfOk result (λ p. sum_meaning p.sum.number p.sum.items p.sum.most ≡ sum_meaning number items most) }
         ensures seen { IfOk result (λ p. p.seen ≡ 0) }
-        ensures stands { IfOk result (λ p. (e : Ends) → p.totals ≡ totals_after p.sum.items e []) }
+        ensures stands { IfOk result (λ p. (e : Ends) → StandsAt p.sum.items p.totals p.widest e []) }
     {
         few(number, items.items());
+        coefficients(items.items());
+        let rising = are_rising(items.items());
         Ok(SumPropagator {
             sum: Sum {
                 number,
                 items,
                 most: i128::from(most),
+                rising,
             },
             seen: 0,
             totals: None,
+            widest: None,
         })
     }
 }
 
 impl Propagator for SumPropagator {
     ghost use Rattle.std.specs.Prelude.{◌≡◌};
-    ghost use Rattle.sum_propagator.specs.Sums.{sum_meaning, totals_after};
+    ghost use Rattle.sum_propagator.specs.Sums.{sum_meaning, StandsAt};
 
     ghost meaning = { λ p. sum_meaning p.sum.number p.sum.items p.sum.most };
 
     ghost looked = { λ p. p.seen };
 
-    ghost stands = { λ p ends entries. p.totals ≡ totals_after p.sum.items ends entries };
+    ghost stands = { λ p ends entries. StandsAt p.sum.items p.totals p.widest ends entries };
 
     fn constraint(&self) -> u32 {
         self.sum.number
@@ -177,6 +225,7 @@ impl Propagator for SumPropagator {
     fn undo(&mut self, _trail: &Trail) {
         self.seen = 0;
         self.totals = None;
+        self.widest = None;
     }
 
     fn propagate(&mut self, alloc: Global, trail: &mut Trail) -> Result<Outcome, Memory> {
@@ -184,6 +233,6 @@ impl Propagator for SumPropagator {
         let totals = look(trail, &self.sum, self.seen, self.totals);
         self.seen = length;
         self.totals = kept(length, totals);
-        answer(alloc, trail, &self.sum, totals)
+        answer(alloc, trail, &self.sum, totals, &mut self.widest)
     }
 }

@@ -3,7 +3,7 @@ ghost use Rattle.std.specs.Prelude.{◌≡◌, ◌≤◌, ◌^◌, length, IsTru
 ghost use Rattle.trail.specs.declared.shape.Shape.{Shape};
 ghost use Rattle.trail.specs.Assignment.{Names};
 ghost use Rattle.propagator_core.specs.Standing.{StandsFor};
-ghost use Rattle.sum_propagator.specs.Sums.{are_items, fits_sum, totals_after};
+ghost use Rattle.sum_propagator.specs.Sums.{are_items, fits_sum, StandsAt};
 
 use crate::SumPropagator;
 use linear_normal::Item;
@@ -44,9 +44,9 @@ fn is_literal(shape: Shape, lit: Lit) -> bool
 // Sets the literal.
 fn put(sum: &SumPropagator, trail: &mut Trail, lit: Lit) -> Result<(), Fail>
     requires fits { IsTrue (fits_sum sum.now.sum.number sum.now.sum.items trail.old.shape) }
-    requires stands { StandsFor (λ ends entries. sum.now.totals ≡ totals_after sum.now.sum.items ends entries) sum.now.seen trail.old }
+    requires stands { StandsFor (StandsAt sum.now.sum.items sum.now.totals sum.now.widest) sum.now.seen trail.old }
     ensures fits { IsTrue (fits_sum sum.now.sum.number sum.now.sum.items trail.new.shape) }
-    ensures stands { StandsFor (λ ends entries. sum.now.totals ≡ totals_after sum.now.sum.items ends entries) sum.now.seen trail.new }
+    ensures stands { StandsFor (StandsAt sum.now.sum.items sum.now.totals sum.now.widest) sum.now.seen trail.new }
     ensures shape { trail.new.shape ≡ trail.old.shape }
 {
     if !is_literal(trail.shape(), lit) {
@@ -90,9 +90,9 @@ fn call(
     told: &mut Vec<Lit>,
 ) -> Result<char, Fail>
     requires fits { IsTrue (fits_sum sum.old.sum.number sum.old.sum.items trail.old.shape) }
-    requires stands { StandsFor (λ ends entries. sum.old.totals ≡ totals_after sum.old.sum.items ends entries) sum.old.seen trail.old }
+    requires stands { StandsFor (StandsAt sum.old.sum.items sum.old.totals sum.old.widest) sum.old.seen trail.old }
     ensures fits { IsTrue (fits_sum sum.new.sum.number sum.new.sum.items trail.new.shape) }
-    ensures stands { StandsFor (λ ends entries. sum.new.totals ≡ totals_after sum.new.sum.items ends entries) sum.new.seen trail.new }
+    ensures stands { StandsFor (StandsAt sum.new.sum.items sum.new.totals sum.new.widest) sum.new.seen trail.new }
     ensures shape { trail.new.shape ≡ trail.old.shape }
 {
     match sum.propagate(alloc, trail) {
@@ -104,9 +104,9 @@ fn call(
 // Takes the entries above the level back.
 fn back(sum: &mut SumPropagator, trail: &mut Trail, level: usize) -> Result<(), Fail>
     requires fits { IsTrue (fits_sum sum.old.sum.number sum.old.sum.items trail.old.shape) }
-    requires stands { StandsFor (λ ends entries. sum.old.totals ≡ totals_after sum.old.sum.items ends entries) sum.old.seen trail.old }
+    requires stands { StandsFor (StandsAt sum.old.sum.items sum.old.totals sum.old.widest) sum.old.seen trail.old }
     ensures fits { IsTrue (fits_sum sum.new.sum.number sum.new.sum.items trail.new.shape) }
-    ensures stands { StandsFor (λ ends entries. sum.new.totals ≡ totals_after sum.new.sum.items ends entries) sum.new.seen trail.new }
+    ensures stands { StandsFor (StandsAt sum.new.sum.items sum.new.totals sum.new.widest) sum.new.seen trail.new }
     ensures shape { trail.new.shape ≡ trail.old.shape }
 {
     if level > trail.level() {
@@ -122,7 +122,7 @@ fn start(alloc: Global, trail: &Trail, items: &[Item], most: i64) -> Result<SumP
     requires items { IsTrue (are_items 1 items.now) }
     requires fits { IsTrue (fits_sum 1 items.now trail.now.shape) }
     ensures fits { IfOk result (λ sum. IsTrue (fits_sum sum.sum.number sum.sum.items trail.now.shape)) }
-    ensures stands { IfOk result (λ sum. StandsFor (λ ends entries. sum.totals ≡ totals_after sum.sum.items ends entries) sum.seen trail.now) }
+    ensures stands { IfOk result (λ sum. StandsFor (StandsAt sum.sum.items sum.totals sum.widest) sum.seen trail.now) }
 {
     let list = Listed::from_slice(alloc, items)?;
     match SumPropagator::new(1, list, most) {
@@ -155,9 +155,9 @@ fn shown(
     trail: &mut Trail,
 ) -> Result<([char; 3], Vec<Lit>), Fail>
     requires fits { IsTrue (fits_sum sum.old.sum.number sum.old.sum.items trail.old.shape) }
-    requires stands { StandsFor (λ ends entries. sum.old.totals ≡ totals_after sum.old.sum.items ends entries) sum.old.seen trail.old }
+    requires stands { StandsFor (StandsAt sum.old.sum.items sum.old.totals sum.old.widest) sum.old.seen trail.old }
     ensures fits { IsTrue (fits_sum sum.new.sum.number sum.new.sum.items trail.new.shape) }
-    ensures stands { StandsFor (λ ends entries. sum.new.totals ≡ totals_after sum.new.sum.items ends entries) sum.new.seen trail.new }
+    ensures stands { StandsFor (StandsAt sum.new.sum.items sum.new.totals sum.new.widest) sum.new.seen trail.new }
     ensures shape { trail.new.shape ≡ trail.old.shape }
 {
     let mut told = Vec::new(alloc);
@@ -199,9 +199,9 @@ enum Move {
 // Makes the move.
 fn make(one: Move, sum: &mut SumPropagator, trail: &mut Trail) -> Result<(), Fail>
     requires fits { IsTrue (fits_sum sum.old.sum.number sum.old.sum.items trail.old.shape) }
-    requires stands { StandsFor (λ ends entries. sum.old.totals ≡ totals_after sum.old.sum.items ends entries) sum.old.seen trail.old }
+    requires stands { StandsFor (StandsAt sum.old.sum.items sum.old.totals sum.old.widest) sum.old.seen trail.old }
     ensures fits { IsTrue (fits_sum sum.new.sum.number sum.new.sum.items trail.new.shape) }
-    ensures stands { StandsFor (λ ends entries. sum.new.totals ≡ totals_after sum.new.sum.items ends entries) sum.new.seen trail.new }
+    ensures stands { StandsFor (StandsAt sum.new.sum.items sum.new.totals sum.new.widest) sum.new.seen trail.new }
     ensures shape { trail.new.shape ≡ trail.old.shape }
 {
     match one {

@@ -1,5 +1,5 @@
 -- One more propagator in a list, one more item in a sum, and one more entry on a trail.
-use Rattle.std.proofs.Common.{◌≡◌, ℕ, zero, suc, ◌+◌, ◌<◌, ◌≤◌, ◌&&◌, not, Bool, true, false, IsTrue, List, [], ◌∷◌, ◌++◌, map, take, refl, sym, ap, subst, arith, ℤ, pos, Option}
+use Rattle.std.proofs.Common.{◌≡◌, ℕ, zero, suc, ◌+◌, ◌<◌, ◌≤◌, ◌&&◌, not, Bool, true, false, IsTrue, List, [], ◌∷◌, ◌++◌, map, take, refl, sym, ap, subst, arith, ℤ, pos}
 use Rattle.std.specs.List.{All, AllByRecursion, list_all}
 use Rattle.std.proofs.lemmas.Bool.Decides.{nat_tests}
 use Rattle.std.proofs.lemmas.List.{map-append}
@@ -20,8 +20,7 @@ use Rattle.propagator_core.specs.Meaning.{Meaning}
 use Rattle.propagator_core.specs.Standing.{StandsFor}
 use Rattle.propagator_core.specs.Several.{AllFit, AllStand}
 use Rattle.propagator_core.proofs.SeveralLaws.{stands_on}
-use Rattle.sum_propagator.specs.Sums.{same_counted, counts_truth, are_items, is_item_of, fits_sum, sum_meaning, totals_after}
-use Rattle.sum_propagator.specs.declared.sum.Totals.{Totals}
+use Rattle.sum_propagator.specs.Sums.{same_counted, counts_truth, are_items, is_item_of, fits_sum, sum_meaning}
 
 -- PROPAGATORS
 
@@ -41,10 +40,10 @@ stand_more stands looked xs y t h g =
 pub fits_same : (n p : ℕ) (is js : List Item) (k l : ℤ) (s : Shape) → sum_meaning p js l ≡ sum_meaning n is k → IsTrue (fits_sum n is s) → IsTrue (fits_sum p js s)
 fits_same n p is js k l s e h = subst (λ (m : Meaning). IsTrue (m.fits s)) (sym e) h
 
-pub stands_new : (totals : Option Totals) (items : List Item) (seen : ℕ) (t : Assignment) → seen ≡ 0 → ((e : Ends) → totals ≡ totals_after items e []) → StandsFor (λ ends entries. totals ≡ totals_after items ends entries) seen t
-stands_new totals items seen t e h = record {
+pub stands_new : (stands : Ends → List Entry → Type 0) (seen : ℕ) (t : Assignment) → seen ≡ 0 → ((e : Ends) → stands e []) → StandsFor stands seen t
+stands_new stands seen t e h = record {
   within = omega (arith, e);
-  for_these = subst (λ (n : ℕ). totals ≡ totals_after items t.shape.ends (take n t.entries)) (sym e) (h t.shape.ends);
+  for_these = subst (λ (n : ℕ). stands t.shape.ends (take n t.entries)) (sym e) (h t.shape.ends);
 }
 
 pub stands_set : (stands : Ends → List Entry → Type 0) (seen : ℕ) (a b : Assignment) (l : Lit) (why : Why) (p : Placed) → Names a.shape l → Places a l why p b → StandsFor stands seen a → StandsFor stands seen b

@@ -4,7 +4,7 @@ ghost use Rattle.trail.specs.declared.shape.Shape.{Shape};
 ghost use Rattle.trail.specs.Assignment.{Assignment};
 ghost use Rattle.propagator_core.specs.Standing.{StandsFor};
 ghost use Rattle.propagator_core.specs.Several.{AllFit, AllStand};
-ghost use Rattle.sum_propagator.specs.Sums.{fits_sum, sum_meaning, totals_after};
+ghost use Rattle.sum_propagator.specs.Sums.{fits_sum, sum_meaning, StandsAt};
 
 use crate::starting::{add, start};
 use linear_normal::Item;
@@ -21,7 +21,7 @@ fn link(alloc: Global, number: u32, trail: &Trail) -> Result<SumPropagator, Memo
     requires next { number < trail.now.shape.variables }
     requires small { number ≤ 100000 }
     ensures fits { IfOk result (λ p. IsTrue (fits_sum p.sum.number p.sum.items trail.now.shape)) }
-    ensures stands { IfOk result (λ p. StandsFor (λ ends entries. p.totals ≡ totals_after p.sum.items ends entries) p.seen trail.now) }
+    ensures stands { IfOk result (λ p. StandsFor (StandsAt p.sum.items p.totals p.widest) p.seen trail.now) }
 {
     let items = [Item::Value(number, 1), Item::Value(number + 1, -1)];
     let list = Listed::from_slice(alloc, &items)?;
@@ -37,7 +37,7 @@ fn links(alloc: Global, count: u32, trail: &Trail) -> Result<Vec<SumPropagator>,
     requires variables { count < trail.now.shape.variables }
     requires small { count ≤ 100000 }
     ensures fit { IfOk result (λ all. AllFit (map (λ p. sum_meaning p.sum.number p.sum.items p.sum.most) all.items) trail.now.shape) }
-    ensures stand { IfOk result (λ all. AllStand (λ p ends entries. p.totals ≡ totals_after p.sum.items ends entries) (λ p. p.seen) all.items trail.now) }
+    ensures stand { IfOk result (λ all. AllStand (λ p. StandsAt p.sum.items p.totals p.widest) (λ p. p.seen) all.items trail.now) }
 {
     let mut all = Vec::new(alloc);
     for before in 0..count {

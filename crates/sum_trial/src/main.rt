@@ -1,7 +1,7 @@
 //! What `bench/sums.sh` takes the time of.
 //!
 //! `chain N` narrows N sums of two items to their end, each of which keeps a variable 10 below the next one.
-//! `wide N` narrows one sum of N items N times. A line says how many entries the trail has then.
+//! `wide N` narrows one sum of N items N times, and `idle N` calls one as often that narrows nothing. A line says how many entries the trail has then.
 #![tactic(auto)]
 
 mod chain;
@@ -21,8 +21,10 @@ fn entries_of(alloc: Global, words: &[String]) -> Result<usize, Memory> {
             let count = count.parse().unwrap_or(1u32).clamp(1, 100_000);
             if kind.as_str() == "chain" {
                 narrow_chain(alloc, count)
+            } else if kind.as_str() == "idle" {
+                narrow_wide(alloc, count, 1 << 40)
             } else {
-                narrow_wide(alloc, count)
+                narrow_wide(alloc, count, 0)
             }
         }
         _ => Ok(0),

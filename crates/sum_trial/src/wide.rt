@@ -3,7 +3,7 @@ ghost use Rattle.std.specs.Prelude.{◌≡◌, ◌+◌, ◌<◌, ◌≤◌, ◌^
 ghost use Rattle.std.specs.List.{list_all};
 ghost use Rattle.trail.specs.declared.shape.Shape.{Shape};
 ghost use Rattle.propagator_core.specs.Standing.{StandsFor};
-ghost use Rattle.sum_propagator.specs.Sums.{are_items, is_item_of, fits_sum, totals_after};
+ghost use Rattle.sum_propagator.specs.Sums.{are_items, is_item_of, fits_sum, StandsAt};
 
 use crate::starting::start;
 use linear_normal::Item;
@@ -46,29 +46,35 @@ fn raise<P: Propagator>(
     Ok(())
 }
 
-// The sum of these items that is at most 0, as constraint 1.
-fn sum_of(alloc: Global, constraints: u32, trail: &Trail) -> Result<SumPropagator, Memory>
+// The sum of these items that is at most this number, as constraint 1.
+fn sum_of(
+    alloc: Global,
+    constraints: u32,
+    most: i64,
+    trail: &Trail,
+) -> Result<SumPropagator, Memory>
     requires constraints { constraints ≡ trail.now.shape.constraints }
     requires variables { 2 ≤ trail.now.shape.variables }
     requires some { 1 ≤ constraints }
     requires few { constraints ≤ 100000 }
     ensures fits { IfOk result (λ p. IsTrue (fits_sum p.sum.number p.sum.items trail.now.shape)) }
-    ensures stands { IfOk result (λ p. StandsFor (λ ends entries. p.totals ≡ totals_after p.sum.items ends entries) p.seen trail.now) }
+    ensures stands { IfOk result (λ p. StandsFor (StandsAt p.sum.items p.totals p.widest) p.seen trail.now) }
 {
     let items = items_of(alloc, constraints)?;
-    match SumPropagator::new(1, items, 0) {
+    match SumPropagator::new(1, items, most) {
         Ok(sum) => Ok(sum),
         Err(memory) => Err(memory),
     }
 }
 
-/// How many entries there are when one sum of so many items is narrowed as often.
-pub fn narrow_wide(alloc: Global, count: u32) -> Result<usize, Memory>
+/// How many entries there are when one sum of so many items, which is at most this number, has been called
+/// as often, each time after a raised bound.
+pub fn narrow_wide(alloc: Global, count: u32, most: i64) -> Result<usize, Memory>
     requires some { 1 ≤ count }
     requires few { count ≤ 100000 }
 {
     let mut trail = start(alloc, count, 2, 1)?;
-    let mut sum = sum_of(alloc, count, &trail)?;
+    let mut sum = sum_of(alloc, count, most, &trail)?;
     raise(alloc, &mut sum, &mut trail, count)?;
     Ok(trail.length())
 }

@@ -1,14 +1,18 @@
-use Rattle.std.proofs.Common.{rules, arith, ◌≡◌, ◌<◌, ◌+◌, ◌+ℤ◌, ◌<ℤ◌, pos, subst, sym, ◌∙◌, FitsSigned, ℕ, length}
+use Rattle.std.proofs.Common.{rules, arith, ◌≡◌, ◌<◌, ◌+◌, ◌+ℤ◌, ◌<ℤ◌, pos, subst, sym, ◌∙◌, FitsSigned, ℕ, List, length, IsTrue}
 use Rattle.std.specs.Int.{w128}
+use Rattle.std.specs.List.{All}
 use Rattle.std.proofs.lemmas.Int.{ints, to_z-of_z}
 use Rattle.literals.specs.declared.lit.Lit.TheVariants.{Constraint}
+use Rattle.linear_normal.specs.declared.constraint.Item.{Item}
 use Rattle.trail.specs.Assignment.{Assignment}
 use Rattle.trail.proofs.GrowthLaws.{grows_same, grows_length}
 use Rattle.propagator_core.specs.Shown.{IsShown}
 use Rattle.propagator_core.specs.Quiet.{IsQuiet}
-use Rattle.sum_propagator.specs.Sums.{valid_sum, sum_meaning, bounds_on}
+use Rattle.sum_propagator.specs.Sums.{is_item_of, valid_sum, sum_meaning, bounds_on, IsWithin}
 use Rattle.sum_propagator.specs.Sides.{limit_of, side_sum}
 use Rattle.sum_propagator.specs.Reasons.{Explains}
+use Rattle.sum_propagator.proofs.Narrowing.{items_of, fits_grows}
+use Rattle.sum_propagator.proofs.Widths.{all_rest}
 use Rattle.sum_propagator.proofs.Settling.{conflict_here, quiet_here, above_here, sum_is}
 use Rattle.sum_propagator.proofs.sum_propagator.decided.Goals as goal
 
@@ -29,12 +33,12 @@ returns-then-length-before-clause-answer c =
     let ft : FitsSigned w128 c.args.total = search rules in
     let fl : FitsSigned w128 c.limit-limit.result = search rules in
     let e = simp to_z-of_z at c.limit-limit.ensures.value in
-    let h : (c.args.total +ℤ pos c.slack_of.result) ≡ c.limit-limit.result = (let w = simp to_z-of_z at c.slack_of.ensures in w) in
+    let h : (c.args.total +ℤ pos c.slack_of-slack.result) ≡ c.limit-limit.result = (let w = simp to_z-of_z at c.slack_of-slack.ensures in w) in
     let length_is : length c.press.new.trail.entries ≡ length c.args.trail.now.entries = sym c.length.ensures.value ∙ c.if-length-before.true ∙ c.length-before.ensures.value in
     let same : c.press.new.trail ≡ c.args.trail.now = grows_same (IsShown (valid_sum c.args.sum.now.number c.args.sum.now.items c.args.sum.now.most)) c.args.trail.now c.press.new.trail c.press.ensures.grows length_is in
     subst (λ (t : Assignment). IsQuiet (sum_meaning c.args.sum.now.number c.args.sum.now.items c.args.sum.now.most) t) (sym same)
-    (quiet_here c.args.trail.now c.args.sum.now.number c.args.sum.now.items c.args.sum.now.most c.args.side c.slack_of.result c.requires.assignment c.args.sum.now.are_items c.requires.fits c.requires.on
-    (sum_is (limit_of c.args.side c.args.sum.now.most) c.limit-limit.result c.args.total (side_sum c.args.side (bounds_on c.args.trail.now) c.args.sum.now.items) c.slack_of.result e c.requires.total h)
+    (quiet_here c.args.trail.now c.args.sum.now.number c.args.sum.now.items c.args.sum.now.most c.args.side c.slack_of-slack.result c.requires.assignment c.args.sum.now.are_items c.requires.fits c.requires.on
+    (sum_is (limit_of c.args.side c.args.sum.now.most) c.limit-limit.result c.args.total (side_sum c.args.side (bounds_on c.args.trail.now) c.args.sum.now.items) c.slack_of-slack.result e c.requires.total h)
     (c.in_ok-press.ensures.rest same))
 
 pub returns-else-length-before-clause-answer : goal.returns-else-length-before-clause-answer
@@ -44,3 +48,27 @@ returns-else-length-before-clause-answer c =
   where
     longer : (a b m x y : ℕ) → b ≡ a + m → x ≡ b → y ≡ a → (x ≡ y → ⊥) → a < b
     longer a b m x y e f g n = grind arith
+
+pub returns-then-is_at_most-clause-answer : goal.returns-then-is_at_most-clause-answer
+returns-then-is_at_most-clause-answer c =
+    let fm : FitsSigned w128 c.args.sum.now.most = search rules in
+    let ft : FitsSigned w128 c.args.total = search rules in
+    let fl : FitsSigned w128 c.limit-limit.result = search rules in
+    let e = simp to_z-of_z at c.limit-limit.ensures.value in
+    let h : (c.args.total +ℤ pos c.slack_of-slack.result) ≡ c.limit-limit.result = (let w = simp to_z-of_z at c.slack_of-slack.ensures in w) in
+    quiet_here c.args.trail.now c.args.sum.now.number c.args.sum.now.items c.args.sum.now.most c.args.side c.slack_of-slack.result c.requires.assignment c.args.sum.now.are_items c.requires.fits c.requires.on
+    (sum_is (limit_of c.args.side c.args.sum.now.most) c.limit-limit.result c.args.total (side_sum c.args.side (bounds_on c.args.trail.now) c.args.sum.now.items) c.slack_of-slack.result e c.requires.total h)
+    (all_rest c.args.side (bounds_on c.args.trail.now) c.args.sum.now.items c.args.widest.now c.slack_of-slack.result c.requires.widest (c.is_at_most.ensures c.if-is_at_most.true))
+
+pub widest_on-requires-clause-named : goal.widest_on-requires-clause-named
+widest_on-requires-clause-named c =
+    subst (λ (items : List Item). All (λ (i : Item). IsTrue (is_item_of c.press.new.trail.shape i)) items) (sym c.items.ensures)
+    (items_of c.press.new.trail.shape c.args.sum.now.number c.args.sum.now.items
+    (fits_grows (IsShown (valid_sum c.args.sum.now.number c.args.sum.now.items c.args.sum.now.most)) c.args.trail.now c.press.new.trail c.args.sum.now.number c.args.sum.now.items c.press.ensures.grows c.requires.fits))
+
+pub returns-then-length-before-clause-widest : goal.returns-then-length-before-clause-widest
+returns-then-length-before-clause-widest c =
+    let length_is : length c.press.new.trail.entries ≡ length c.args.trail.now.entries = sym c.length.ensures.value ∙ c.if-length-before.true ∙ c.length-before.ensures.value in
+    let same : c.press.new.trail ≡ c.args.trail.now = grows_same (IsShown (valid_sum c.args.sum.now.number c.args.sum.now.items c.args.sum.now.most)) c.args.trail.now c.press.new.trail c.press.ensures.grows length_is in
+    subst (λ (items : List Item). All (IsWithin c.widest_on.result (bounds_on c.args.trail.now)) items) c.items.ensures
+    (subst (λ (t : Assignment). All (IsWithin c.widest_on.result (bounds_on t)) c.items.result.now) same c.widest_on.ensures)

@@ -1,6 +1,6 @@
 use Rattle.std.proofs.Common.{List, IsTrue, subst, sym}
 use Rattle.linear_normal.specs.declared.constraint.Item.{Item}
-use Rattle.sum_propagator.specs.Sums.{fits_sum}
+use Rattle.sum_propagator.specs.Sums.{fits_sum, StandsAt}
 use Rattle.sum_propagator.proofs.TestLaws.{fits_same, stands_new}
 use Rattle.sum_propagator.proofs.tests.start.Goals as goal
 
@@ -10,4 +10,4 @@ returns-in-Ok-clause-fits c =
     (subst (λ (items : List Item). IsTrue (fits_sum 1 items c.args.trail.now.shape)) (sym c.in_ok-list.ensures) c.requires.fits)
 
 pub returns-in-Ok-clause-stands : goal.returns-in-Ok-clause-stands
-returns-in-Ok-clause-stands c = stands_new c.in-Ok.sum.totals c.in-Ok.sum.sum.items c.in-Ok.sum.seen c.args.trail.now c.in-Ok.ensures.seen c.in-Ok.ensures.stands
+returns-in-Ok-clause-stands c = stands_new (StandsAt c.in-Ok.sum.sum.items c.in-Ok.sum.totals c.in-Ok.sum.widest) c.in-Ok.sum.seen c.args.trail.now c.in-Ok.ensures.seen c.in-Ok.ensures.stands

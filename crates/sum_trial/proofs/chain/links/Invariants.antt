@@ -1,11 +1,11 @@
-use Rattle.std.proofs.Common.{◌≡◌, map}
+use Rattle.std.proofs.Common.{map}
 use Rattle.propagator_core.specs.Several.{AllFit, AllStand}
-use Rattle.sum_propagator.specs.Sums.{sum_meaning, totals_after}
+use Rattle.sum_propagator.specs.Sums.{sum_meaning, StandsAt}
 use Rattle.sum_propagator.specs.declared.sum_propagator.SumPropagator.{SumPropagator}
 use Rattle.sum_trial.proofs.chain.links.Given as goal
 
 abbrev pub invariant-loop-before : goal.invariant-loop-before
 invariant-loop-before l = record {
   fit : AllFit (map (λ (p : SumPropagator). sum_meaning p.sum.number p.sum.items p.sum.most) l.all.items) l.trail.shape;
-  stand : AllStand (λ (p : SumPropagator) ends entries. p.totals ≡ totals_after p.sum.items ends entries) (λ (p : SumPropagator). p.seen) l.all.items l.trail;
+  stand : AllStand (λ (p : SumPropagator). StandsAt p.sum.items p.totals p.widest) (λ (p : SumPropagator). p.seen) l.all.items l.trail;
 }

@@ -1,4 +1,5 @@
 use Rattle.std.proofs.Common.{arith}
+use Rattle.sum_propagator.specs.Sums.{StandsAt}
 use Rattle.sum_trial.proofs.MoreLaws.{fits_same, stands_new, wide_fits}
 use Rattle.sum_trial.proofs.wide.sum_of.Goals as goal
 
@@ -9,4 +10,4 @@ returns-in-Ok-clause-fits c =
     (c.in_ok-items.ensures.named c.args.trail.now.shape (let e = c.requires.constraints in omega arith) c.requires.variables))
 
 pub returns-in-Ok-clause-stands : goal.returns-in-Ok-clause-stands
-returns-in-Ok-clause-stands c = stands_new c.in-Ok.sum.totals c.in-Ok.sum.sum.items c.in-Ok.sum.seen c.args.trail.now c.in-Ok.ensures.seen c.in-Ok.ensures.stands
+returns-in-Ok-clause-stands c = stands_new (StandsAt c.in-Ok.sum.sum.items c.in-Ok.sum.totals c.in-Ok.sum.widest) c.in-Ok.sum.seen c.args.trail.now c.in-Ok.ensures.seen c.in-Ok.ensures.stands
