@@ -5,3 +5,4 @@ pub mod Outcome
 pub mod Arithmetic
 pub mod Value
 pub mod Worth
+pub mod Printed
