@@ -73,7 +73,7 @@ rel_closing rel.GreaterEqual = record { opens = refl; multiply = refl; add = ref
 pub starts_as : (f g : Word → Bool) (a b : Bool) → ((w : Word) → f w ≡ a → g w ≡ b) → (w : Word) (ts rest : List Word) → ts ≡ w ∷ rest → f w ≡ a → starts_next g ts ≡ b
 starts_as f g a b step w ts rest e h = ap (starts_next g) e ∙ step w h
 
-term_not_negation : (w : Word) → begins_term w ≡ true → is_negation w ≡ false
+pub term_not_negation : (w : Word) → begins_term w ≡ true → is_negation w ≡ false
 term_not_negation word.negation h = absurd cc
 term_not_negation (word.numeral n) h = refl
 term_not_negation (word.name bytes) h = refl
@@ -88,7 +88,7 @@ pub next_as : (f g : Word → Bool) → ((w : Word) → f w ≡ true → g w ≡
 next_as f g step [] h = refl
 next_as f g step (w ∷ ts) h = step w h
 
-next_more : (f g : Word → Bool) (ts : List Word) → starts_next f ts ≡ true → starts_next (λ w. g w || f w) ts ≡ true
+pub next_more : (f g : Word → Bool) (ts : List Word) → starts_next f ts ≡ true → starts_next (λ w. g w || f w) ts ≡ true
 next_more f g [] h = absurd cc
 next_more f g (w ∷ ts) h = by (g w)
   where
@@ -125,7 +125,7 @@ module _ (n : ℕ) where
   abbrev pub atom_read : Reader (AtomAt n)
   atom_read = atom_with (level n)
 
-  atom_starts : (a : AtomAt n) (rest : List Word) → starts_next is_name (atom_text a rest) ≡ true
+  pub atom_starts : (a : AtomAt n) (rest : List Word) → starts_next is_name (atom_text a rest) ≡ true
   atom_starts (plain name) rest = refl
   atom_starts (applied name args) rest = refl
 
@@ -343,10 +343,10 @@ module _ (n : ℕ) where
   abbrev kinds_on : Either (Unit {0} × AtomAt n) (PlainOf (Operand n) (Room n)) → Word → Bool
   kinds_on = either_goes_on (λ p. atom_goes_on p.1) (λ b. sides_on (sides_of b))
 
-  sides_begin : (s : TermAt n × Option (Rel × TermAt n)) (rest : List Word) → starts_next begins_term (sides_words s rest) ≡ true
+  pub sides_begin : (s : TermAt n × Option (Rel × TermAt n)) (rest : List Word) → starts_next begins_term (sides_words s rest) ≡ true
   sides_begin s rest = term_begins s.0 (right_words s.1 rest)
 
-  not_denied : (b : PlainOf (Operand n) (Room n)) (rest : List Word) → starts_next is_negation (sides_words (sides_of b) rest) ≡ false
+  pub not_denied : (b : PlainOf (Operand n) (Room n)) (rest : List Word) → starts_next is_negation (sides_words (sides_of b) rest) ≡ false
   not_denied b rest = next_as begins_term is_negation term_not_negation (sides_words (sides_of b) rest) (sides_begin (sides_of b) rest)
 
   abbrev pub parts_of : ConditionOf (Operand n) (Room n) → Either (Unit {0} × AtomAt n) (PlainOf (Operand n) (Room n))

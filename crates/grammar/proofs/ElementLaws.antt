@@ -22,10 +22,10 @@ use Rattle.grammar.proofs.Marked.{marked_lawful, closed_lawful, mapped_lawful}
 use Rattle.grammar.proofs.KindLaws.{lawful_as}
 use Rattle.grammar.proofs.ConditionLaws.{Closing, term_on, term_closes, term_begins, some_term, right_on, right_law, condition_on, condition_closes, condition_begins, conditions_law}
 
-semicolon_is : (s : Unit {0}) → semicolon (semicolon_word s) ≡ Some s
+pub semicolon_is : (s : Unit {0}) → semicolon (semicolon_word s) ≡ Some s
 semicolon_is s = refl
 
-semicolon_only : (w : Word) (s : Unit {0}) → semicolon w ≡ Some s → w ≡ semicolon_word s
+pub semicolon_only : (w : Word) (s : Unit {0}) → semicolon w ≡ Some s → w ≡ semicolon_word s
 semicolon_only w s h = by (is_word m.Semicolon w) refl h
   where
     by : (p : Bool) → is_word m.Semicolon w ≡ p → (if p then Some tt else None) ≡ Some s → w ≡ semicolon_word s
@@ -123,7 +123,7 @@ module _ (n : ℕ) where
       maybe_weak (marked_words m.Colon (maybe_words conditions_words)) (maybe_goes_on begins conditions_on) (marked_with m.Colon (maybe_with begins (conditions_with (level n)))) colon_law
       (is_word m.Colon) (λ o rest. refl)
 
-  given_closes : (g : GivenAt) (w : Word) → Parting w → given_on g w ≡ false
+  pub given_closes : (g : GivenAt) (w : Word) → Parting w → given_on g w ≡ false
   given_closes None w c = c.colon
   given_closes (Some None) w c = c.begin
   given_closes (Some (Some row)) w c = or_false (condition_on n (last_item row.first row.rest) w) (is_some (comma w)) (condition_closes n (last_item row.first row.rest) w c.closing c.relates) (ap is_some c.signs)
@@ -282,10 +282,10 @@ module _ (n : ℕ) where
           (and_false (no_behind (d, (p, g))) (term_on n t w) (term_closes n t w c.closing))
 
   -- ---- theory atoms
-  semicolon_parts : Parting (word.mark m.Semicolon)
+  pub semicolon_parts : Parting (word.mark m.Semicolon)
   semicolon_parts = record { closing = record { opens = refl; multiply = refl; add = refl; dots = refl }; at = refl; comma_none = refl; colon = refl; begin = refl; relates = refl; signs = refl }
 
-  brace_parts : Parting (word.mark m.CloseBrace)
+  pub brace_parts : Parting (word.mark m.CloseBrace)
   brace_parts = record { closing = record { opens = refl; multiply = refl; add = refl; dots = refl }; at = refl; comma_none = refl; colon = refl; begin = refl; relates = refl; signs = refl }
 
   abbrev pub Elements : Type 0

@@ -4,8 +4,9 @@ use Rattle.std.proofs.lemmas.List.{length-append, append-nil}
 use Rattle.grammar.specs.Word.{Word}
 use Rattle.grammar.specs.Reading.{Fault, Expected, TooDeep, Outcome, Reader}
 use Rattle.grammar.specs.Faults.{CanGoOn, IsExpected, IsTooDeep}
-use Rattle.grammar.proofs.Lawful.{left, Refuses, Stuck, Lawful}
+use Rattle.grammar.proofs.Lawful.{left, Refuses, Stuck}
 use Rattle.grammar.proofs.Deeper.{After, Past, Deeper}
+use Rattle.grammar.proofs.Pairs.{Weak}
 
 -- ---- lists that are parted twice
 heads : (x y : Word) (a b : List Word) → x ∷ a ≡ y ∷ b → (x ≡ y) × (a ≡ b)
@@ -54,7 +55,7 @@ pub record Found (Claim : List Word → List Word → Type 0) (ts : List Word) (
   pub claim : Claim front after
 
 module _ (Form : ℕ → Type 0) (words : (n : ℕ) → Form n → List Word → List Word) (goes_on : (n : ℕ) → Form n → Word → Bool) (read : (n : ℕ) → Reader (Form n))
-    (law : (n : ℕ) → Lawful (words n) (goes_on n) (read n)) (deeper : (n : ℕ) → Deeper (read n) (read (suc n))) where
+    (law : (n : ℕ) → Weak (words n) (goes_on n) (read n)) (deeper : (n : ℕ) → Deeper (read n) (read (suc n))) where
   -- so many levels above one
   above : ℕ → ℕ → ℕ
   above zero n = n

@@ -1,11 +1,12 @@
 -- Forms behind signs, forms of one of two kinds, and those of a kind that are forms of another.
-use Rattle.std.proofs.Common.{◌≡◌, ℕ, ◌<◌, Bool, true, false, ◌⊎◌, inl, inr, if◌then◌else◌, List, [], ◌∷◌, ◌++◌, length, drop, Option, Some, None, Ok, Err, refl, sym, ◌∙◌, ap, subst, append_assoc, arith}
+use Rattle.std.proofs.Common.{◌≡◌, ℕ, ◌<◌, ◌≤◌, Bool, true, false, ◌⊎◌, inl, inr, if◌then◌else◌, List, [], ◌∷◌, ◌++◌, length, drop, Option, Some, None, Ok, Err, refl, sym, ◌∙◌, ap, subst, append_assoc, arith}
 use Rattle.std.specs.Option.{is_some}
 use Rattle.grammar.specs.Word.{Word, Ends}
 use Rattle.grammar.specs.Parts.{signed_words}
 use Rattle.grammar.specs.Reading.{Fault, Expected, TooDeep, Outcome, Reader, and_then, expected, sign_at, starts_next, signed_with, Either, one, other, either_with, kept_by, kept_with}
 use Rattle.grammar.proofs.Lawful.{Refuses, Stuck, Lawful, ok_pair, ok_parts, bind_ok, bind_err, bind_by, expected_left, stuck_inside, next_is}
 use Rattle.grammar.proofs.Deeper.{Deeper, Shrinks, After, Within, Past, within_less, within_past, drop_shorter, then_shrinks, then_deeper, if_deeper, if_within}
+use Rattle.grammar.proofs.Pairs.{Weak}
 
 -- ---- a form behind a sign
 module _ {S A : Type 0} (sign_word : S → Word) (sign : Word → Option S) (sign_is : (s : S) → sign (sign_word s) ≡ Some s) (sign_only : (w : Word) (s : S) → sign w ≡ Some s → w ≡ sign_word s)
@@ -323,3 +324,22 @@ lawful_as {A} words words2 goes_on goes_on2 read same ends law = record {
     back : (a : A) (rest : List Word) → Ends (goes_on2 a) rest → Ends (goes_on a) rest
     back a [] h = tt
     back a (w ∷ rest) h = ends a w ∙ h
+
+pub weak_as : {A : Type 0} (words words2 : A → List Word → List Word) (goes_on : A → Word → Bool) (read : Reader A) → ((a : A) (rest : List Word) → words a rest ≡ words2 a rest) → Weak words goes_on read → Weak words2 goes_on read
+weak_as words words2 goes_on read same law = record {
+  parted = λ a x y. sym (same a (x ++ y)) ∙ law.parted a x y ∙ ap (λ z. z ++ y) (same a x);
+  longer = λ a rest. subst (λ z. length rest ≤ length z) (same a rest) (law.longer a rest);
+  sound = λ ts a rest h. let s = law.sound ts a rest h in (s.0 ∙ same a rest, s.1);
+  complete = λ a rest h. ap read (sym (same a rest)) ∙ law.complete a rest h;
+  stuck = λ ts f h. let s = law.stuck ts f h in record { front = s.front; after = s.after; split = s.split; place = s.place; goes = s.goes; more = s.more; begins = sym (same s.goes []) ∙ s.begins; local = s.local };
+}
+
+-- readers that read the same
+pub lawful_by : {A : Type 0} (words : A → List Word → List Word) (goes_on : A → Word → Bool) (read read2 : Reader A) → ((ts : List Word) → read ts ≡ read2 ts) → Lawful words goes_on read → Lawful words goes_on read2
+lawful_by words goes_on read read2 same law = record {
+  parted = law.parted;
+  some = law.some;
+  sound = λ ts a rest h. law.sound ts a rest (same ts ∙ h);
+  complete = λ a rest h. sym (same (words a rest)) ∙ law.complete a rest h;
+  stuck = λ ts f h. let s = law.stuck ts f (same ts ∙ h) in record { front = s.front; after = s.after; split = s.split; place = s.place; goes = s.goes; more = s.more; begins = s.begins; local = λ x r next e y k. s.local x r next e y (same (s.front ++ x ∷ next) ∙ k) };
+}

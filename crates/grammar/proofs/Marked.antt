@@ -9,7 +9,7 @@ use Rattle.grammar.specs.Reading.{Fault, Reader, expected, before, marked_with, 
 use Rattle.grammar.proofs.WordLemmas.{the_next}
 use Rattle.grammar.proofs.Lawful.{Refuses, Stuck, Lawful, ok_pair, ok_parts, bind_ok, bind_err, bind_by, expected_left, stuck_inside, stuck_behind, before_ok, before_err, before_refuses, never_on, next_is, next_same}
 use Rattle.grammar.proofs.Deeper.{Deeper, Shrinks, within_less, drop_shorter, before_shrinks, before_deeper, then_shrinks, then_deeper, if_deeper, if_within}
-use Rattle.grammar.proofs.Pairs.{Weak}
+use Rattle.grammar.proofs.Pairs.{Weak, weak_of}
 
 mark_is : (mark : Mark) (rest : List Word) → is_next mark (word.mark mark ∷ rest) ≡ true
 mark_is mark rest = eq-eqb (mark_number mark) (mark_number mark) refl
@@ -115,7 +115,7 @@ module _ {A : Type 0} (words : A → List Word → List Word) (goes_on : A → W
   }
 
 -- ---- a form as another
-module _ {A B : Type 0} (words : A → List Word → List Word) (goes_on : A → Word → Bool) (read : Reader A) (law : Lawful words goes_on read) (to : A → B) (from : B → A)
+module _ {A B : Type 0} (words : A → List Word → List Word) (goes_on : A → Word → Bool) (read : Reader A) (law : Weak words goes_on read) (to : A → B) (from : B → A)
     (there : (b : B) → to (from b) ≡ b) (back : (a : A) → from (to a) ≡ a) where
   abbrev pub mapped_words : B → List Word → List Word
   mapped_words b rest = words (from b) rest
@@ -143,14 +143,20 @@ module _ {A B : Type 0} (words : A → List Word → List Word) (goes_on : A →
           stuck_inside words mapped_words (Refuses read) (Refuses mapped) [] to [] ts f (λ a. ap (λ z. words z []) (back a)) law.parted
           (λ front x r next e bad y k. let b = bind_ok (read (front ++ x ∷ next)) _ y k in bad (b.0, b.1) b.2) (law.stuck ts f g)
 
-  pub mapped_lawful : Lawful mapped_words mapped_goes_on mapped
-  mapped_lawful = record {
+  pub mapped_weak : Weak mapped_words mapped_goes_on mapped
+  mapped_weak = record {
     parted = λ b x y. law.parted (from b) x y;
-    some = λ b rest. law.some (from b) rest;
+    longer = λ b rest. law.longer (from b) rest;
     sound = mapped_sound;
     complete = λ b rest h. bind_by (read (words (from b) rest)) _ (from b) rest (law.complete (from b) rest h) ∙ ap (λ z. Ok (z, rest)) (there b);
     stuck = mapped_stuck;
   }
+
+pub mapped_lawful : {A B : Type 0} (words : A → List Word → List Word) (goes_on : A → Word → Bool) (read : Reader A) → Lawful words goes_on read → (to : A → B) (from : B → A)
+    → ((b : B) → to (from b) ≡ b) → ((a : A) → from (to a) ≡ a) → Lawful (λ b rest. words (from b) rest) (λ b next. goes_on (from b) next) (mapped_with to read)
+mapped_lawful words goes_on read law to from there back =
+    let weak = mapped_weak words goes_on read (weak_of words goes_on read law) to from there back in
+    record { parted = weak.parted; some = λ b rest. law.some (from b) rest; sound = weak.sound; complete = weak.complete; stuck = weak.stuck }
 
 -- ---- deeper
 pub marked_deeper : {A A2 : Type 0} (mark : Mark) (a : Reader A) (a2 : Reader A2) → Deeper a a2 → Deeper (marked_with mark a) (marked_with mark a2)

@@ -8,6 +8,7 @@ use Rattle.grammar.proofs.Lawful.{Lawful, ok_parts}
 use Rattle.grammar.proofs.Terms.{product_lawful, sum_lawful, term_lawful, args_lawful}
 use Rattle.grammar.proofs.Levels.{operand_lawful, operand_only}
 use Rattle.grammar.proofs.Deeper.{Deeper, operand_deeper, operand_shrinks, term_deeper}
+use Rattle.grammar.proofs.Pairs.{Weak, weak_of}
 use Rattle.grammar.proofs.First.{Found, first_expected, first_deep}
 
 abbrev pub unary_text : (n : ℕ) → UnaryAt n → List Word → List Word
@@ -28,6 +29,9 @@ sum_law n = sum_lawful (unary_text n) (unary_on n) (unary_at n) (operand_lawful 
 pub term_law : (n : ℕ) → Lawful (term_text n) (term_goes_on (unary_on n)) (term_at n)
 term_law n = term_lawful (unary_text n) (unary_on n) (unary_at n) (operand_lawful n) (operand_only n)
 
+term_weak : (n : ℕ) → Weak (term_text n) (term_goes_on (unary_on n)) (term_at n)
+term_weak n = weak_of (term_text n) (term_goes_on (unary_on n)) (term_at n) (term_law n)
+
 pub args_law : (n : ℕ) → Lawful (args_words (unary_text n)) (args_go_on (unary_on n)) (args_at n)
 args_law n = args_lawful (unary_text n) (unary_on n) (unary_at n) (operand_lawful n) (operand_only n)
 
@@ -35,10 +39,10 @@ pub terms_deeper : (n : ℕ) → Deeper (term_at n) (term_at (suc n))
 terms_deeper n = term_deeper (unary_at n) (unary_at (suc n)) (operand_deeper n) (operand_shrinks (suc n))
 
 pub term_expected : (n : ℕ) (ts : List Word) (k : ℕ) → term_at n ts ≡ Err (Expected k) → Found (IsExpected TermAt term_text n) ts k
-term_expected = first_expected TermAt term_text (λ n. term_goes_on (unary_on n)) term_at term_law terms_deeper
+term_expected = first_expected TermAt term_text (λ n. term_goes_on (unary_on n)) term_at term_weak terms_deeper
 
 pub term_deep : (n : ℕ) (ts : List Word) (k : ℕ) → term_at n ts ≡ Err (TooDeep k) → Found (IsTooDeep TermAt term_text n) ts k
-term_deep = first_deep TermAt term_text (λ n. term_goes_on (unary_on n)) term_at term_law terms_deeper
+term_deep = first_deep TermAt term_text (λ n. term_goes_on (unary_on n)) term_at term_weak terms_deeper
 
 pub one_term : (n : ℕ) (t u : TermAt n) (behind beyond : List Word) → term_text n t behind ≡ term_text n u beyond
     → Ends (term_goes_on (unary_on n) t) behind → Ends (term_goes_on (unary_on n) u) beyond → (t ≡ u) × (behind ≡ beyond)

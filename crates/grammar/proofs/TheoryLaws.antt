@@ -7,7 +7,7 @@ use Rattle.grammar.specs.Word.{Word, Ends, is_word}
 use Rattle.grammar.specs.Word as word
 use Rattle.grammar.specs.Term.{AtomOf, AtomAt, UnaryAt, TermAt, plain, applied, negated, number, text, variable, anonymous, atom, unit, group, single, tuple, multiplying, adding, comma, atom_goes_on}
 use Rattle.grammar.specs.Theory.{FullTerm, TheoryAt, relation, semicolon}
-use Rattle.grammar.specs.Reading.{Expected, TooDeep, Outcome, Reader, and_then, expected, maybe_with, kept_by, kept_with, starts_next, unary_at, term_at, level}
+use Rattle.grammar.specs.Reading.{Expected, TooDeep, Outcome, Reader, and_then, expected, pair_with, maybe_with, kept_by, kept_with, starts_next, unary_at, term_at, level}
 use Rattle.grammar.specs.TheoryReading.{is_name, is_negation, is_relation, negation, begins, begins_term, unary_atom, term_atom, compared, compared_by, condition_of, atom_with, compared_with, sides_with, plain_with, denied_with, condition_with, conditions_with, given_with, duration_with, places_with, element_of, element_with, elements_with, braces_with, guard_with, name_with, theory_of, theory_at}
 use Rattle.grammar.specs.Faults.{IsExpected, IsTooDeep}
 use Rattle.grammar.proofs.Lawful.{Refuses, ok_parts, ok_pair, bind_ok, bind_by, or_left, or_right, or_false}
@@ -16,7 +16,7 @@ use Rattle.grammar.proofs.First.{Found, first_expected, first_deep}
 use Rattle.grammar.proofs.Terms.{term_refused}
 use Rattle.grammar.proofs.Levels.{operand_lawful, operand_only}
 use Rattle.grammar.proofs.TermLaws.{unary_text, unary_on, term_law, terms_deeper}
-use Rattle.grammar.proofs.Pairs.{Weak, pair_deeper, maybe_deeper}
+use Rattle.grammar.proofs.Pairs.{Weak, weak_of, pair_deeper, maybe_deeper}
 use Rattle.grammar.proofs.Marked.{marked_deeper, closed_deeper, mapped_deeper}
 use Rattle.grammar.proofs.KindLaws.{signed_deeper, either_deeper, kept_deeper}
 use Rattle.grammar.proofs.ConditionLaws.{atom_law, atom_term, term_on, term_atom_is, right_law, condition_law}
@@ -133,7 +133,6 @@ term_same n ts t u rest h g = by (term_atom t) refl (term_atom u) refl
     by None q None q2 = ap is_some q ∙ sym (ap is_some q2)
     by None q (Some b) q2 = absurd (down b q2 q)
 
--- ---- comparisons
 maybe_some : {A : Type 0} (starts : Word → Bool) (read : Reader A) (ts : List Word) (o : Option A) (rest : List Word) → maybe_with starts read ts ≡ Ok (o, rest) → is_some o ≡ starts_next starts ts
 maybe_some {A} starts read ts o rest h = by (starts_next starts ts) h
   where
@@ -141,12 +140,50 @@ maybe_some {A} starts read ts o rest h = by (starts_next starts ts) h
     by true e = let c = bind_ok (read ts) _ (o, rest) e in ap is_some (sym (ok_parts (Some c.0) o c.1 rest c.3).0)
     by false e = ap is_some (sym (ok_parts {A = Option A} None o ts rest e).0)
 
+-- ---- a term, and a form that may stand behind it
+module _ {A : ℕ → Type 0} (starts : Word → Bool) (behind : (n : ℕ) → Reader (A n)) where
+  abbrev parts_with : (n : ℕ) → Reader (TermAt n × Option (A n))
+  parts_with n = pair_with (term_at n) (maybe_with starts (behind n))
+
+  -- the second form stands there, or the term is an atom
+  abbrev holds_one : (n : ℕ) → TermAt n × Option (A n) → Bool
+  holds_one n a = is_some a.1 || is_some (term_atom a.0)
+
+  record Parts (n : ℕ) (ts : List Word) (a : TermAt n × Option (A n)) : Type 0 where
+    middle : List Word
+    form : TermAt n
+    reads : term_at n ts ≡ Ok (form, middle)
+    kept : holds_one n a ≡ (starts_next starts middle || is_some (term_atom form))
+
+  parts_are : (n : ℕ) (ts : List Word) (a : TermAt n × Option (A n)) (rest : List Word) → parts_with n ts ≡ Ok (a, rest) → Parts n ts a
+  parts_are n ts a rest h =
+      let b = bind_ok (term_at n ts) _ (a, rest) h in
+      let c = bind_ok (maybe_with starts (behind n) b.1) _ (a, rest) b.3 in
+      let p = ok_parts (b.0, c.0) a c.1 rest c.3 in
+      record {
+        middle = b.1;
+        form = b.0;
+        reads = b.2;
+        kept = ap (holds_one n) (sym p.0) ∙ ap (λ z. z || is_some (term_atom b.0)) (maybe_some starts (behind n) b.1 c.0 c.1 c.2);
+      }
+
+  pub parts_same : (n : ℕ) (ts : List Word) (a : TermAt n × Option (A n)) (a2 : TermAt (suc n) × Option (A (suc n))) (rest : List Word) → parts_with n ts ≡ Ok (a, rest) → parts_with (suc n) ts ≡ Ok (a2, rest)
+      → (is_some a.1 || is_some (term_atom a.0)) ≡ (is_some a2.1 || is_some (term_atom a2.0))
+  parts_same n ts a a2 rest h g =
+      let s = parts_are n ts a rest h in
+      let u = parts_are (suc n) ts a2 rest g in
+      let above = subst (λ z. After z (term_at (suc n) ts)) s.reads (terms_deeper n ts) in
+      let same = (ok_parts u.form above.0 u.middle s.middle (sym u.reads ∙ above.1)).1 in
+      let forms = term_same n ts s.form u.form s.middle s.reads (u.reads ∙ ap (λ z. Ok (u.form, z)) same) in
+      s.kept ∙ ap (λ z. starts_next starts s.middle || z) forms ∙ ap (λ z. starts_next starts z || is_some (term_atom u.form)) (sym same) ∙ sym u.kept
+
+-- ---- comparisons
 compared_some : {D R : Type 0} (t : FullTerm D R) (found : Option (AtomOf D)) (o : Option (Rel × FullTerm D R)) → is_some (compared_by t found o) ≡ (is_some o || is_some found)
 compared_some t found (Some r) = refl
 compared_some t (Some a) None = refl
 compared_some t None None = refl
 
-compared_deeper : (n : ℕ) → Deeper (compared_with (level n)) (compared_with (level (suc n)))
+pub compared_deeper : (n : ℕ) → Deeper (compared_with (level n)) (compared_with (level (suc n)))
 compared_deeper n = signed_deeper relation (term_at n) (term_at (suc n)) (terms_deeper n)
 
 right_deeper : (n : ℕ) → Deeper (guard_with (level n)) (guard_with (level (suc n)))
@@ -155,35 +192,12 @@ right_deeper n = maybe_deeper is_relation (compared_with (level n)) (compared_wi
 sides_deeper : (n : ℕ) → Deeper (sides_with (level n)) (sides_with (level (suc n)))
 sides_deeper n = pair_deeper (term_at n) (term_at (suc n)) (guard_with (level n)) (guard_with (level (suc n))) (terms_deeper n) (right_deeper n) (weak_shrinks _ _ _ (right_law (suc n)))
 
-record Sides (n : ℕ) (ts : List Word) (a : TermAt n × Option (Rel × TermAt n)) : Type 0 where
-  middle : List Word
-  form : TermAt n
-  reads : term_at n ts ≡ Ok (form, middle)
-  kept : is_some (compared a) ≡ (starts_next is_relation middle || is_some (term_atom form))
-
-sides_are : (n : ℕ) (ts : List Word) (a : TermAt n × Option (Rel × TermAt n)) (rest : List Word) → sides_with (level n) ts ≡ Ok (a, rest) → Sides n ts a
-sides_are n ts a rest h =
-    let b = bind_ok (term_at n ts) _ (a, rest) h in
-    let c = bind_ok (guard_with (level n) b.1) _ (a, rest) b.3 in
-    let p = ok_parts (b.0, c.0) a c.1 rest c.3 in
-    record {
-      middle = b.1;
-      form = b.0;
-      reads = b.2;
-      kept = ap (λ z. is_some (compared z)) (sym p.0) ∙ compared_some b.0 (term_atom b.0) c.0 ∙ ap (λ z. z || is_some (term_atom b.0)) (maybe_some is_relation (compared_with (level n)) b.1 c.0 c.1 c.2);
-    }
-
 sides_same : (n : ℕ) (ts : List Word) (a : TermAt n × Option (Rel × TermAt n)) (a2 : TermAt (suc n) × Option (Rel × TermAt (suc n))) (rest : List Word) → sides_with (level n) ts ≡ Ok (a, rest)
     → sides_with (level (suc n)) ts ≡ Ok (a2, rest) → is_some (compared a) ≡ is_some (compared a2)
 sides_same n ts a a2 rest h g =
-    let s = sides_are n ts a rest h in
-    let u = sides_are (suc n) ts a2 rest g in
-    let above = subst (λ z. After z (term_at (suc n) ts)) s.reads (terms_deeper n ts) in
-    let same = (ok_parts u.form above.0 u.middle s.middle (sym u.reads ∙ above.1)).1 in
-    let forms = term_same n ts s.form u.form s.middle s.reads (u.reads ∙ ap (λ z. Ok (u.form, z)) same) in
-    s.kept ∙ ap (λ z. starts_next is_relation s.middle || z) forms ∙ ap (λ z. starts_next is_relation z || is_some (term_atom u.form)) (sym same) ∙ sym u.kept
+    compared_some a.0 (term_atom a.0) a.1 ∙ parts_same is_relation (λ n. compared_with (level n)) n ts a a2 rest h g ∙ sym (compared_some a2.0 (term_atom a2.0) a2.1)
 
-plain_deeper : (n : ℕ) → Deeper (plain_with (level n)) (plain_with (level (suc n)))
+pub plain_deeper : (n : ℕ) → Deeper (plain_with (level n)) (plain_with (level (suc n)))
 plain_deeper n = kept_deeper (sides_with (level n)) (sides_with (level (suc n))) compared compared (sides_deeper n) (sides_same n)
 
 pub condition_deeper : (n : ℕ) → Deeper (condition_with (level n)) (condition_with (level (suc n)))
@@ -195,7 +209,7 @@ conditions_deeper : (n : ℕ) → Deeper (conditions_with (level n)) (conditions
 conditions_deeper n = row_deeper (condition_with (level n)) (condition_with (level (suc n))) comma (condition_deeper n) (lawful_shrinks _ _ _ (condition_law (suc n)))
 
 -- ---- elements
-given_deeper : (n : ℕ) → Deeper (given_with (level n)) (given_with (level (suc n)))
+pub given_deeper : (n : ℕ) → Deeper (given_with (level n)) (given_with (level (suc n)))
 given_deeper n = maybe_deeper (is_word m.Colon) _ _ (marked_deeper m.Colon _ _ (maybe_deeper begins _ _ (conditions_deeper n)))
 
 duration_deeper : (n : ℕ) → Deeper (duration_with (level n)) (duration_with (level (suc n)))
@@ -222,7 +236,7 @@ braces_deeper n = marked_deeper m.OpenBrace _ _ (closed_deeper m.CloseBrace _ _ 
 guarded_deeper : (n : ℕ) → Deeper (guarded_read n) (guarded_read (suc n))
 guarded_deeper n = pair_deeper _ _ _ _ (braces_deeper n) (right_deeper n) (weak_shrinks _ _ _ (right_law (suc n)))
 
-name_deeper : Deeper name_with name_with
+pub name_deeper : Deeper name_with name_with
 name_deeper ts = by (name_with ts) refl
   where
     by : (r : Outcome (List ℕ)) → name_with ts ≡ r → After r (name_with ts)
@@ -245,11 +259,14 @@ pub theory_deeper : (n : ℕ) → Deeper (theory_at n) (theory_at (suc n))
 theory_deeper n = mapped_deeper (theory_of (level n)) (theory_of (level (suc n))) _ _ (marked_deeper m.And _ _ (named_deeper n))
 
 -- ---- faults
+theory_weak : (n : ℕ) → Weak (theory_text n) (theory_on n) (theory_at n)
+theory_weak n = weak_of (theory_text n) (theory_on n) (theory_at n) (theory_law n)
+
 pub theory_expected : (n : ℕ) (ts : List Word) (k : ℕ) → theory_at n ts ≡ Err (Expected k) → Found (IsExpected TheoryAt theory_text n) ts k
-theory_expected = first_expected TheoryAt theory_text theory_on theory_at theory_law theory_deeper
+theory_expected = first_expected TheoryAt theory_text theory_on theory_at theory_weak theory_deeper
 
 pub theory_deep : (n : ℕ) (ts : List Word) (k : ℕ) → theory_at n ts ≡ Err (TooDeep k) → Found (IsTooDeep TheoryAt theory_text n) ts k
-theory_deep = first_deep TheoryAt theory_text theory_on theory_at theory_law theory_deeper
+theory_deep = first_deep TheoryAt theory_text theory_on theory_at theory_weak theory_deeper
 
 pub one_theory : (n : ℕ) (t u : TheoryAt n) (behind beyond : List Word) → theory_text n t behind ≡ theory_text n u beyond → Ends (theory_on n t) behind → Ends (theory_on n u) beyond → (t ≡ u) × (behind ≡ beyond)
 one_theory n t u behind beyond same ends ends2 =

@@ -1,4 +1,5 @@
 pub mod Word
+pub mod Written
 pub mod Row
 pub mod Parts
 pub mod Term
@@ -13,4 +14,13 @@ pub mod TheoryReading
 pub mod Statement
 pub mod StatementTree
 pub mod StatementSight
+pub mod Rules
 pub mod Check
+pub mod StatementReading
+pub mod Text
+pub mod TextReading
+pub mod WordText
+pub mod Tidied
+pub mod AllWords
+pub mod TidiedStatement
+pub mod Standing

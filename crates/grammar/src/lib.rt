@@ -12,7 +12,9 @@ mod shape;
 mod words;
 
 pub use check::{Check, Failing, sooner};
-pub use law::{one_term, one_theory};
+pub use law::{
+    one_statement, one_term, one_text, one_theory, statements_keep_rules, words_are_written,
+};
 pub use mark::Mark;
 pub use shape::Shape;
 pub use words::{WordKind, bytes_at, is_mark, number_of, string_content, word_at};
