@@ -1,5 +1,5 @@
 -- What is kept of a form is kept of the forms that it is a part of.
-use Rattle.std.proofs.Common.{◌≡◌, ℕ, ◌+◌, ◌<◌, ◌≤◌, Bool, List, [], ◌∷◌, ◌++◌, length, map, Option, Some, None, Ok, Err, refl, sym, ◌∙◌, ap, subst, append_assoc, arith}
+use Rattle.std.proofs.Common.{◌≡◌, ℕ, ◌+◌, ◌<◌, ◌≤◌, Bool, true, List, [], ◌∷◌, ◌++◌, length, map, Option, Some, None, Ok, Err, refl, sym, ◌∙◌, ap, subst, append_assoc, arith}
 use Rattle.std.proofs.lemmas.List.{append-nil, map-append, length-append}
 use Rattle.lexer.specs.declared.token.Token.{Token}
 use Rattle.syntax_tree.specs.declared.rule.Name.{Name}
@@ -12,8 +12,8 @@ use Rattle.grammar.specs.Reading.{Fault, Outcome, Reader, and_then, sign_at, tai
 use Rattle.grammar.proofs.Lawful.{Lawful, bind_by}
 use Rattle.grammar.proofs.Deeper.{Shrinks, lawful_shrinks, whole_tail, tail_none, tail_some, tail_err}
 use Rattle.theory_grammar.specs.declared.seen.Seen.{Seen}
-use Rattle.theory_grammar.specs.State.{least, refused, argued, start_of, named, places_of, Extends, Class, Reads, part_class, argument_class, list_class}
-use Rattle.theory_grammar.proofs.StateLemmas.{named_append, named_extends, extends_more, places_append, argued_places, argued_names, least_append, refused_least, words_long, words_next}
+use Rattle.theory_grammar.specs.State.{least, refused, argued, noted, named, seen_places, Extends, Class, Reads, part_class, argument_class, list_class}
+use Rattle.theory_grammar.proofs.StateLemmas.{named_append, named_extends, extends_more, places_join, argued_places, argued_names, least_append, refused_least, words_long, words_next}
 
 module _ {A X : Type 0} (c : Class A X) (text : List ℕ) (tokens : List Token) where
   -- an operand among others
@@ -33,7 +33,7 @@ module _ {A X : Type 0} (c : Class A X) (text : List ℕ) (tokens : List Token) 
 
   -- an argument
   pub argument_read : (at : ℕ) (old mid new : Seen) (value : X) (shape : Shape) (next : ℕ) → Reads c text tokens at old mid value shape next
-      → new ≡ record mid { places = argued mid.places shape (length old.places) (start_of tokens at) } → Reads (argument_class c) text tokens at old new value Other next
+      → new ≡ record mid { places = argued mid.places shape (length old.places) (noted tokens at true) } → Reads (argument_class c) text tokens at old new value Other next
   argument_read at old mid new value shape next r e = record {
     form = r.form;
     is = r.is;
@@ -41,8 +41,8 @@ module _ {A X : Type 0} (c : Class A X) (text : List ℕ) (tokens : List Token) 
     within = r.within;
     shaped = refl;
     names = ap (λ s. s.names) e ∙ r.names ∙ sym (argued_names old.names (c.sights r.form at) (c.shape r.form) at);
-    places = ap (λ s. s.places) e ∙ ap (λ z. argued z shape (length old.places) (start_of tokens at)) r.places ∙ argued_places tokens old.places (c.sights r.form at) shape at
-        ∙ ap (λ z. old.places ++ places_of tokens (argument_by z at ++ c.sights r.form at)) r.shaped;
+    places = ap (λ s. s.places) e ∙ ap (λ z. argued z shape (length old.places) (noted tokens at true)) r.places ∙ argued_places tokens old.names old.places (c.sights r.form at) shape at
+        ∙ ap (λ z. old.places ++ seen_places tokens old.names (argument_by z at ++ c.sights r.form at)) r.shaped;
     bad = ap (λ s. s.bad) e ∙ r.bad;
     tree = λ later h. r.tree later (subst (λ z. Extends z later) (ap (λ s. s.names) e) h);
   }
@@ -108,7 +108,7 @@ module _ {I S X Y : Type 0} (c : Class I X) (goes_on : I → Word → Bool) (law
     pub within : next ≤ length tokens
     pub many : found ≡ [] → next ≡ start
     pub names : new.names ≡ named old.names (seen_of first found at)
-    pub places : new.places ≡ old.places ++ places_of tokens (seen_of first found at)
+    pub places : new.places ≡ old.places ++ seen_places tokens old.names (seen_of first found at)
     pub bad : new.bad ≡ least old.bad (bads_of first found at)
     pub tree : (later : List Name) → Extends new.names later → so_far ≡ one (c.tree later first) ∷ map (λ p. joined p.0 (c.tree later p.1)) found
 
@@ -127,7 +127,7 @@ module _ {I S X Y : Type 0} (c : Class I X) (goes_on : I → Word → Bool) (law
     within = r.within;
     many = λ h. refl;
     names = r.names ∙ ap (named old.names) (sym (append-nil (c.sights r.form at)));
-    places = r.places ∙ ap (λ z. old.places ++ places_of tokens z) (sym (append-nil (c.sights r.form at)));
+    places = r.places ∙ ap (λ z. old.places ++ seen_places tokens old.names z) (sym (append-nil (c.sights r.form at)));
     bad = r.bad ∙ ap (least old.bad) (sym (append-nil (c.bads r.form at)));
     tree = λ later h. e ∙ ap (λ v. one v ∷ []) (r.tree later h);
   }
@@ -164,10 +164,8 @@ module _ {I S X Y : Type 0} (c : Class I X) (goes_on : I → Word → Bool) (law
         within = r.within;
         many = λ h. absurd (not_nil p.found item h);
         names = r.names ∙ ap (λ z. named z (c.sights r.form (next + 1))) p.names ∙ sym (named_append old.names (seen_of p.first p.found at) (c.sights r.form (next + 1))) ∙ ap (named old.names) (sym sights);
-        places = r.places ∙ ap (λ z. z ++ places_of tokens (c.sights r.form (next + 1))) p.places
-            ∙ append_assoc old.places (places_of tokens (seen_of p.first p.found at)) (places_of tokens (c.sights r.form (next + 1)))
-            ∙ ap (λ z. old.places ++ z) (sym (places_append tokens (seen_of p.first p.found at) (c.sights r.form (next + 1))))
-            ∙ ap (λ z. old.places ++ places_of tokens z) (sym sights);
+        places = places_join tokens old.names mid.names old.places mid.places new.places (seen_of p.first p.found at) (c.sights r.form (next + 1)) p.names p.places r.places
+            ∙ ap (λ z. old.places ++ seen_places tokens old.names z) (sym sights);
         bad = r.bad ∙ ap (λ z. least z (c.bads r.form (next + 1))) p.bad ∙ sym (least_append old.bad (bads_of p.first p.found at) (c.bads r.form (next + 1))) ∙ ap (least old.bad) (sym bads);
         tree = λ later h.
             let so : Extends mid.names later = extends_more mid.names new.names later (subst (Extends mid.names) (sym r.names) (named_extends mid.names (c.sights r.form (next + 1)))) h in

@@ -26,8 +26,9 @@ use Rattle.grammar.proofs.Levels.{operand_lawful}
 use Rattle.grammar.proofs.TermLaws.{term_law, term_text}
 use Rattle.grammar.proofs.Pairs.{weak_of}
 use Rattle.grammar.proofs.ConditionLaws.{atom_term, term_atom_is, term_on}
+use Rattle.theory_grammar.specs.declared.places.Place.{Place}
 use Rattle.theory_grammar.specs.declared.seen.Seen.{Seen}
-use Rattle.theory_grammar.specs.State.{least, start_of, named, places_of, Extends, Reads, unary_class}
+use Rattle.theory_grammar.specs.State.{least, noted, named, seen_places, Extends, Reads, unary_class}
 use Rattle.theory_grammar.specs.TheoryState.{judged_class, compared_class, atom_class, condition_class, whole_class}
 use Rattle.theory_grammar.proofs.StateLemmas.{words_next}
 use Rattle.theory_grammar.proofs.TermReads.{then_fails}
@@ -105,20 +106,20 @@ module _ (bytes : List ℕ) (tokens : List Token) where
   here at = words_at bytes tokens at
 
   -- ---- an atom, which is noted before what is inside it
-  abbrev entered : ℕ → List ℕ → ℕ → List ℕ
-  entered before places at = take before places ++ start_of tokens at ∷ drop before places
+  abbrev entered : ℕ → List Place → ℕ → List Place
+  entered before places at = take before places ++ noted tokens at false ∷ drop before places
 
-  take_all : (xs ys : List ℕ) → take (length xs) (xs ++ ys) ≡ xs
+  take_all : {X : Type 0} (xs ys : List X) → take (length xs) (xs ++ ys) ≡ xs
   take_all [] ys = refl
   take_all (x ∷ xs) ys = ap (λ z. x ∷ z) (take_all xs ys)
 
-  drop_all : (xs ys : List ℕ) → drop (length xs) (xs ++ ys) ≡ ys
+  drop_all : {X : Type 0} (xs ys : List X) → drop (length xs) (xs ++ ys) ≡ ys
   drop_all [] ys = refl
   drop_all (x ∷ xs) ys = drop_all xs ys
 
-  pub entered_places : (old : List ℕ) (sights : List Sighting) (at : ℕ) → entered (length old) (old ++ places_of tokens sights) at ≡ old ++ places_of tokens (seen of_atom at ++ sights)
-  entered_places old sights at =
-      ap (λ z. z ++ start_of tokens at ∷ drop (length old) (old ++ places_of tokens sights)) (take_all old (places_of tokens sights)) ∙ ap (λ z. old ++ start_of tokens at ∷ z) (drop_all old (places_of tokens sights))
+  pub entered_places : (names : List Name) (old : List Place) (sights : List Sighting) (at : ℕ) → entered (length old) (old ++ seen_places tokens names sights) at ≡ old ++ seen_places tokens names (seen of_atom at ++ sights)
+  entered_places names old sights at =
+      ap (λ z. z ++ noted tokens at false ∷ drop (length old) (old ++ seen_places tokens names sights)) (take_all old (seen_places tokens names sights)) ∙ ap (λ z. old ++ noted tokens at false ∷ z) (drop_all old (seen_places tokens names sights))
 
   atom_present : (at : ℕ) → starts_next is_name (here at) ≡ true → atom_with (level 64) (here at) ≡ kept_with unary_atom (unary_at 64) (here at)
   atom_present at h = rw h refl
@@ -160,9 +161,9 @@ module _ (bytes : List ℕ) (tokens : List Token) where
       names : new.names ≡ named old.names ((unary_class 64).sights (atom a.0) at)
       names = ap (λ s. s.names) e ∙ r.names ∙ ap (λ u. named old.names ((unary_class 64).sights u at)) a.1
 
-      places : new.places ≡ old.places ++ places_of tokens (seen of_atom at ++ (unary_class 64).sights (atom a.0) at)
-      places = ap (λ s. s.places) e ∙ ap (λ n. entered n mid.places at) b ∙ ap (λ z. entered (length old.places) z at) r.places ∙ entered_places old.places ((unary_class 64).sights r.form at) at
-          ∙ ap (λ u. old.places ++ places_of tokens (seen of_atom at ++ (unary_class 64).sights u at)) a.1
+      places : new.places ≡ old.places ++ seen_places tokens old.names (seen of_atom at ++ (unary_class 64).sights (atom a.0) at)
+      places = ap (λ s. s.places) e ∙ ap (λ n. entered n mid.places at) b ∙ ap (λ z. entered (length old.places) z at) r.places ∙ entered_places old.names old.places ((unary_class 64).sights r.form at) at
+          ∙ ap (λ u. old.places ++ seen_places tokens old.names (seen of_atom at ++ (unary_class 64).sights u at)) a.1
 
       bad : new.bad ≡ least old.bad ((unary_class 64).bads (atom a.0) at)
       bad = ap (λ s. s.bad) e ∙ r.bad ∙ ap (λ u. least old.bad ((unary_class 64).bads u at)) a.1
@@ -171,7 +172,7 @@ module _ (bytes : List ℕ) (tokens : List Token) where
       tree later h = r.tree later (subst (λ z. Extends z later) (ap (λ s. s.names) e) h) ∙ ap ((unary_class 64).tree later) a.1
 
       finish : (a : AtomAt 64) → atom_with (level 64) (here at) ≡ Ok (a, here next) → new.names ≡ named old.names ((unary_class 64).sights (atom a) at)
-          → new.places ≡ old.places ++ places_of tokens (seen of_atom at ++ (unary_class 64).sights (atom a) at) → new.bad ≡ least old.bad ((unary_class 64).bads (atom a) at)
+          → new.places ≡ old.places ++ seen_places tokens old.names (seen of_atom at ++ (unary_class 64).sights (atom a) at) → new.bad ≡ least old.bad ((unary_class 64).bads (atom a) at)
           → ((later : List Name) → Extends new.names later → value ≡ (unary_class 64).tree later (atom a)) → Reads atom_class bytes tokens at old new value Other next
       finish a is names places bad tree = record { form = a; is = is; forward = r.forward; within = r.within; shaped = refl; names = names; places = places; bad = bad; tree = tree }
 
@@ -183,7 +184,7 @@ module _ (bytes : List ℕ) (tokens : List Token) where
   plain_is : (ts : List Word) (a : TermAt 64 × Option (Rel × TermAt 64)) (rest : List Word) → sides_with (level 64) ts ≡ Ok (a, rest) → plain_with (level 64) ts ≡ kept_by (compared a) rest
   plain_is ts a rest h = bind_by (sides_with (level 64) ts) _ a rest h
 
-  positive_is : (ts : List Word) → starts_next is_negation ts ≡ false → condition_with (level 64) ts ≡ and_then (and_then (plain_with (level 64) ts) (λ b rest. Ok (other b, rest))) (λ a rest. Ok (condition_of a, rest))
+  pub positive_is : (ts : List Word) → starts_next is_negation ts ≡ false → condition_with (level 64) ts ≡ and_then (and_then (plain_with (level 64) ts) (λ b rest. Ok (other b, rest))) (λ a rest. Ok (condition_of a, rest))
   positive_is ts h = rw h refl
 
   denied_is : (ts : List Word) → starts_next is_negation ts ≡ true → condition_with (level 64) ts ≡ and_then (and_then (denied_with (level 64) ts) (λ b rest. Ok (one b, rest))) (λ a rest. Ok (condition_of a, rest))
@@ -258,9 +259,9 @@ module _ (bytes : List ℕ) (tokens : List Token) where
       names : new.names ≡ named old.names (whole_class.sights (atom_term 64 found.0) at)
       names = ap (λ s. s.names) e ∙ r.names ∙ ap (λ u. named old.names (whole_class.sights u at)) form
 
-      places : new.places ≡ old.places ++ places_of tokens (seen of_atom at ++ whole_class.sights (atom_term 64 found.0) at)
-      places = ap (λ s. s.places) e ∙ ap (λ n. entered n mid.places at) b ∙ ap (λ z. entered (length old.places) z at) r.places ∙ entered_places old.places (whole_class.sights r.form at) at
-          ∙ ap (λ u. old.places ++ places_of tokens (seen of_atom at ++ whole_class.sights u at)) form
+      places : new.places ≡ old.places ++ seen_places tokens old.names (seen of_atom at ++ whole_class.sights (atom_term 64 found.0) at)
+      places = ap (λ s. s.places) e ∙ ap (λ n. entered n mid.places at) b ∙ ap (λ z. entered (length old.places) z at) r.places ∙ entered_places old.names old.places (whole_class.sights r.form at) at
+          ∙ ap (λ u. old.places ++ seen_places tokens old.names (seen of_atom at ++ whole_class.sights u at)) form
 
       bad : new.bad ≡ least old.bad ((judged_class false).bads (atom_term 64 found.0) at)
       bad = ap (λ s. s.bad) e ∙ r.bad ∙ ap (λ u. least old.bad ((judged_class false).bads u at)) form
@@ -269,7 +270,7 @@ module _ (bytes : List ℕ) (tokens : List Token) where
       tree later h = same ∙ ap (λ z. literal.Atom z true) (r.tree later (subst (λ z. Extends z later) (ap (λ s. s.names) e) h) ∙ ap (whole_class.tree later) form)
 
       finish : (a : AtomAt 64) → r.form ≡ atom_term 64 a → condition_with (level 64) (here at) ≡ Ok (holds true a, here middle) → new.names ≡ named old.names (whole_class.sights (atom_term 64 a) at)
-          → new.places ≡ old.places ++ places_of tokens (seen of_atom at ++ whole_class.sights (atom_term 64 a) at) → new.bad ≡ least old.bad ((judged_class false).bads (atom_term 64 a) at)
+          → new.places ≡ old.places ++ seen_places tokens old.names (seen of_atom at ++ whole_class.sights (atom_term 64 a) at) → new.bad ≡ least old.bad ((judged_class false).bads (atom_term 64 a) at)
           → ((later : List Name) → Extends new.names later → made ≡ literal.Atom (whole_class.tree later (atom_term 64 a)) true) → Reads condition_class bytes tokens at old new made Other middle
       finish a form is names places bad tree = record {
         form = holds true a;
@@ -278,7 +279,7 @@ module _ (bytes : List ℕ) (tokens : List Token) where
         within = r.within;
         shaped = refl;
         names = names ∙ ap (named old.names) (append-nil ((unary_class 64).sights (atom a) at ++ []) ∙ append-nil ((unary_class 64).sights (atom a) at));
-        places = places ∙ ap (λ z. old.places ++ places_of tokens (seen of_atom at ++ z)) (append-nil ((unary_class 64).sights (atom a) at ++ []) ∙ append-nil ((unary_class 64).sights (atom a) at));
+        places = places ∙ ap (λ z. old.places ++ seen_places tokens old.names (seen of_atom at ++ z)) (append-nil ((unary_class 64).sights (atom a) at ++ []) ∙ append-nil ((unary_class 64).sights (atom a) at));
         bad = bad;
         tree = tree;
       }

@@ -27,7 +27,7 @@ use Rattle.grammar.proofs.Pairs.{weak_of}
 use Rattle.grammar.proofs.ConditionLaws.{term_on}
 use Rattle.grammar.proofs.ElementLaws.{duration_on, duration_law, places_on, places_law}
 use Rattle.theory_grammar.specs.declared.seen.Seen.{Seen}
-use Rattle.theory_grammar.specs.State.{least, named, places_of, Extends, Reads}
+use Rattle.theory_grammar.specs.State.{least, named, seen_places, Extends, Reads}
 use Rattle.theory_grammar.specs.TheoryState.{Takes, is_minus, ends_by_minus, difference_by, parts_class, tree_is_difference, whole_class, judged_class, pair_class, first_class, duration_class, places_class, given_class, element_class}
 use Rattle.theory_grammar.proofs.StateLemmas.{refused_least}
 use Rattle.theory_grammar.proofs.TermReads.{then_fails}
@@ -137,14 +137,14 @@ module _ (bytes : List ℕ) (tokens : List Token) where
     last = further_on + size (places_class name).words p.1.1.0
 
     parts_sights : (parts_class name at).sights p at ≡ (element_class name).sights (element_of (level 64) p) at
-    parts_sights = four ((first_class name).sights p.0 at) ((duration_class name at).sights p.1.0 behind) ((places_class name).sights p.1.1.0 further_on) ((given_class name).sights p.1.1.1 last)
+    parts_sights = four ((first_class name).sights p.0 at) ((duration_class name at).sights p.1.0 behind) ((places_class name).sights p.1.1.0 further_on) ((given_class (is_diff name)).sights p.1.1.1 last)
 
     parts_bads : (parts_class name at).bads p at ≡ (element_class name).bads (element_of (level 64) p) at
-    parts_bads = four ((first_class name).bads p.0 at) ((duration_class name at).bads p.1.0 behind) ((places_class name).bads p.1.1.0 further_on) ((given_class name).bads p.1.1.1 last)
+    parts_bads = four ((first_class name).bads p.0 at) ((duration_class name at).bads p.1.0 behind) ((places_class name).bads p.1.1.0 further_on) ((given_class (is_diff name)).bads p.1.1.1 last)
 
   pub element_read : (name : TheoryName) (at : ℕ) (old one two three new : Seen) (first : Term) (shape : Shape) (long : Option Term) (rest : List Term) (condition : List Literal) (value : TheoryElement) (i j k next : ℕ)
       → Reads (first_class name) bytes tokens at old one first shape i → Takes (duration_class name at) bytes tokens i one two long j → Takes (places_class name) bytes tokens j two three rest k
-      → Takes (given_class name) bytes tokens k three new condition next → value ≡ roll-TheoryElement (record { first = first; duration = long; rest = rest; condition = condition })
+      → Takes (given_class (is_diff name)) bytes tokens k three new condition next → value ≡ roll-TheoryElement (record { first = first; duration = long; rest = rest; condition = condition })
       → Reads (element_class name) bytes tokens at old new value Other next
   unfolding pair_take taken
   element_read name at old one two three new first shape long rest condition value i j k next a b c d made =
@@ -152,9 +152,9 @@ module _ (bytes : List ℕ) (tokens : List Token) where
       let at_i = behind_form bytes tokens (first_class name) (term_on 64) (weak_of (term_text 64) (term_on 64) (term_at 64) (term_law 64)) at old one first i t in
       let at_j = behind_form bytes tokens (duration_class name at) (duration_on 64) (duration_law 64) i one two long j b in
       let at_k = behind_form bytes tokens (places_class name) (places_on 64) (places_law 64) j two three rest k c in
-      let tail = pair_take bytes tokens (places_class name) (given_class name) j two three new rest condition k next c d at_k in
-      let behind = pair_take bytes tokens (duration_class name at) (pair_class (places_class name) (given_class name)) i one two new long (rest, condition) j next b tail at_j in
-      let whole = pair_take bytes tokens (first_class name) (pair_class (duration_class name at) (pair_class (places_class name) (given_class name))) at old one new first (long, (rest, condition)) i next t behind at_i in
+      let tail = pair_take bytes tokens (places_class name) (given_class (is_diff name)) j two three new rest condition k next c d at_k in
+      let behind = pair_take bytes tokens (duration_class name at) (pair_class (places_class name) (given_class (is_diff name))) i one two new long (rest, condition) j next b tail at_j in
+      let whole = pair_take bytes tokens (first_class name) (pair_class (duration_class name at) (pair_class (places_class name) (given_class (is_diff name)))) at old one new first (long, (rest, condition)) i next t behind at_i in
       let f = a.forward in let g = behind.forward in
       record {
         form = element_of (level 64) whole.form;
@@ -163,7 +163,7 @@ module _ (bytes : List ℕ) (tokens : List Token) where
         within = whole.within;
         shaped = refl;
         names = whole.names ∙ ap (named old.names) (parts_sights name at whole.form);
-        places = whole.places ∙ ap (λ z. old.places ++ places_of tokens z) (parts_sights name at whole.form);
+        places = whole.places ∙ ap (λ z. old.places ++ seen_places tokens old.names z) (parts_sights name at whole.form);
         bad = whole.bad ∙ ap (least old.bad) (parts_bads name at whole.form);
         tree = λ later h. made ∙ ap (λ p. roll-TheoryElement (record { first = p.0; duration = p.1.0; rest = p.1.1.0; condition = p.1.1.1 })) (whole.tree later h);
       }

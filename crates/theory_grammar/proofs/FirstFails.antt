@@ -65,7 +65,7 @@ sooner_more (Some f) b x h = by (comes_before (bad b) f) refl
     by true e = ap (λ p. if p then Some (bad x) else Some (bad b)) (bad_before x b ∙ h)
     by false e = ap (λ p. if p then Some (bad x) else Some f) (later x b f h e)
 
-bad_behind : (o : Option Failing) (b : ℕ) (xs : List ℕ) → first_of (sooner o (bad b)) (bad_terms xs) ≡ with_bad o (least (Some b) xs)
+pub bad_behind : (o : Option Failing) (b : ℕ) (xs : List ℕ) → first_of (sooner o (bad b)) (bad_terms xs) ≡ with_bad o (least (Some b) xs)
 bad_behind o b [] = refl
 bad_behind o b (x ∷ xs) = by (nat_lt x b) refl (λ k. bad_behind o k xs)
   where

@@ -12,7 +12,7 @@ use Rattle.grammar.specs.Term.{UnaryAt, number, text, variable, anonymous}
 use Rattle.grammar.specs.Tree.{number_of}
 use Rattle.grammar.specs.Reading.{unary_with, unary_at}
 use Rattle.theory_grammar.specs.declared.seen.Seen.{Seen}
-use Rattle.theory_grammar.specs.State.{Reads, unary_class, start_of, with_name}
+use Rattle.theory_grammar.specs.State.{Reads, unary_class, noted, with_name}
 use Rattle.theory_grammar.proofs.StateLemmas.{number_stays, number_last, not_zero}
 
 zero_is : (n : ℕ) → (n == 0) ≡ true → n ≡ 0
@@ -53,7 +53,7 @@ module _ (n : ℕ) (bytes : List ℕ) (tokens : List Token) (at : ℕ) (within :
     tree = λ later h. ap t.Text is;
   }
 
-  pub anonymous_read : (old new : Seen) → Here word.anonymous → new ≡ record old { places = old.places ++ start_of tokens at ∷ [] } → Reads (unary_class n) bytes tokens at old new t.Anonymous Other (at + 1)
+  pub anonymous_read : (old new : Seen) → Here word.anonymous → new ≡ record old { places = old.places ++ noted tokens at true ∷ [] } → Reads (unary_class n) bytes tokens at old new t.Anonymous Other (at + 1)
   unfolding unary_with
   anonymous_read old new here is = record {
     form = anonymous;
@@ -76,7 +76,7 @@ module _ (n : ℕ) (bytes : List ℕ) (tokens : List Token) (at : ℕ) (within :
       by false q = q
 
   pub variable_read : (old new : Seen) (name : List ℕ) (value : ℕ) → Here (word.variable name)
-      → new ≡ record old { names = with_name old.names name; places = old.places ++ start_of tokens at ∷ [] } → value ≡ number_of new.names name
+      → new ≡ record old { names = with_name old.names name; places = old.places ++ noted tokens at (number_of old.names name == 0) ∷ [] } → value ≡ number_of new.names name
       → Reads (unary_class n) bytes tokens at old new (t.Variable value) Other (at + 1)
   unfolding unary_with
   variable_read old new name value here is numbered = record {

@@ -13,3 +13,4 @@ pub mod ElementReads
 pub mod TheoryReads
 pub mod FirstFails
 pub mod TheoryLemmas
+pub mod NamedRules

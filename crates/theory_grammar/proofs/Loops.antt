@@ -2,7 +2,7 @@
 use Rattle.std.specs.Result.{IfOk, IfErr}
 use Rattle.theory_grammar.specs.declared.fault.Stop.{Stop}
 use Rattle.theory_grammar.specs.declared.fault.Stop.TheVariants as stop
-use Rattle.theory_grammar.specs.declared.term.ReadTerm.{ReadTerm}
+use Rattle.theory_grammar.specs.declared.read_term.ReadTerm.{ReadTerm}
 use Rattle.theory_grammar.proofs.StateLemmas.{words_long}
 use Rattle.grammar.specs.declared.mark.Mark.{Mark}
 use Rattle.std.proofs.Common.{◌≡◌, ◌<◌, true, false, ℕ, suc, ◌+◌, ◌-◌, List, [], ◌∷◌, ◌++◌, length, Option, Some, None, Result, Ok, Err, refl, sym, ◌∙◌, ap, subst, arith}

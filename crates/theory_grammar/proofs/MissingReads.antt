@@ -11,18 +11,16 @@ use Rattle.grammar.specs.declared.mark.Mark.{Mark}
 use Rattle.grammar.specs.declared.mark.Mark.TheVariants as m
 use Rattle.grammar.specs.Word.{Word, words_at, is_word, is_next}
 use Rattle.grammar.specs.Parts.{maybe_gives}
-use Rattle.grammar.specs.Shape.{operand_shape}
-use Rattle.grammar.specs.Sight.{operand_bads}
-use Rattle.grammar.specs.Term.{operand_words, comma}
+use Rattle.grammar.specs.Term.{comma}
 use Rattle.grammar.specs.Theory.{semicolon}
-use Rattle.grammar.specs.Check.{is_diff, is_disjoint, operand_is_difference, places_where, only_bads}
+use Rattle.grammar.specs.Check.{is_diff, is_disjoint, places_where}
 use Rattle.grammar.specs.Reading.{Fault, starts_next, maybe_with, marked_with, row_with, term_at, level}
 use Rattle.grammar.specs.TheoryReading.{begins, begins_term, conditions_with, element_with}
 use Rattle.theory_grammar.specs.declared.fault.Stop.{Stop}
 use Rattle.theory_grammar.specs.declared.seen.Seen.{Seen}
-use Rattle.theory_grammar.specs.declared.term.ReadTerm.{ReadTerm}
+use Rattle.theory_grammar.specs.declared.read_term.ReadTerm.{ReadTerm}
 use Rattle.theory_grammar.specs.State.{least, Class, Reads, TermRead, PlainRead}
-use Rattle.theory_grammar.specs.TheoryState.{Takes, PlainTake, marked_class, more_class, judged_class, conditions_class, held_class, given_class, duration_bads, duration_class, row_class, places_class, maybe_bads, all_class, elements_class}
+use Rattle.theory_grammar.specs.TheoryState.{Takes, PlainTake, marked_class, more_class, judged_class, conditions_class, held_class, given_class, refused_bads, duration_bads, duration_class, row_class, places_class, maybe_bads, all_class, elements_class}
 use Rattle.theory_grammar.proofs.TermReads.{fails_along}
 use Rattle.theory_grammar.proofs.PartReads.{taken, maybe_none, maybe_some, maybe_fails, marked_take, marked_fails, more_take, more_read}
 
@@ -54,22 +52,23 @@ module _ (text : List ℕ) (tokens : List Token) where
   held_some at old new (Err failed) begun h = fails_along text tokens failed (conditions_with (level 64) (here at)) _ (λ f e. maybe_fails text tokens begins (conditions_with (level 64)) at f begun e) h
 
   -- ---- what stands behind an element
-  module _ (name : TheoryName) where
-    pub given_none : (at : ℕ) (seen : Seen) (value : List Literal) → is_next m.Colon (here at) ≡ false → at ≤ length tokens → value ≡ [] → Takes (given_class name) text tokens at seen seen value at
+  module _ (refused : Bool) where
+    pub given_none : (at : ℕ) (seen : Seen) (value : List Literal) → is_next m.Colon (here at) ≡ false → at ≤ length tokens → value ≡ [] → Takes (given_class refused) text tokens at seen seen value at
     given_none at seen value absent within none =
-        maybe_none text tokens (is_word m.Colon) _ (only_bads (operand_words 64) (operand_shape 64) (operand_bads 64) (operand_is_difference 64) name) (marked_class m.Colon held_class) at seen seen value (starting m.Colon at false absent) within refl
+        maybe_none text tokens (is_word m.Colon) _ (refused_bads refused) (marked_class m.Colon held_class) at seen seen value (starting m.Colon at false absent) within refl
         (λ later. none)
 
-    pub given_some : (at : ℕ) (old mid new : Seen) (r : Result (List Literal × ℕ) Stop) → is_next m.Colon (here at) ≡ true → mid ≡ record old { bad = least old.bad (places_where (is_diff name) at) }
-        → PlainTake held_class text tokens (at + 1) mid new r → PlainTake (given_class name) text tokens at old new r
+    pub given_some : (at : ℕ) (old mid new : Seen) (r : Result (List Literal × ℕ) Stop) → is_next m.Colon (here at) ≡ true → mid ≡ record old { bad = least old.bad (places_where refused at) }
+        → PlainTake held_class text tokens (at + 1) mid new r → PlainTake (given_class refused) text tokens at old new r
     given_some at old mid new (Ok p) there e h =
-        maybe_some text tokens (is_word m.Colon) _ (only_bads (operand_words 64) (operand_shape 64) (operand_bads 64) (operand_is_difference 64) name) (more_class (places_where (is_diff name)) (marked_class m.Colon held_class)) at old new p.0 p.0 p.1
+        maybe_some text tokens (is_word m.Colon) _ (refused_bads refused) (more_class (places_where refused) (marked_class m.Colon held_class)) at old new p.0 p.0 p.1
         (starting m.Colon at true there)
-        (more_take text tokens (places_where (is_diff name)) (marked_class m.Colon held_class) at old mid new p.0 p.1 e (marked_take text tokens m.Colon held_class at mid new p.0 p.1 there h)) (λ a. refl) (λ later a e. e)
+        (more_take text tokens (places_where refused) (marked_class m.Colon held_class) at old mid new p.0 p.1 e (marked_take text tokens m.Colon held_class at mid new p.0 p.1 there h)) (λ a. refl) (λ later a e. e)
     given_some at old mid new (Err failed) there e h =
         fails_along text tokens failed (maybe_with begins (conditions_with (level 64)) (here (at + 1))) _
         (λ f g. maybe_fails text tokens (is_word m.Colon) (marked_with m.Colon (maybe_with begins (conditions_with (level 64)))) at f (starting m.Colon at true there) (marked_fails text tokens m.Colon (maybe_with begins (conditions_with (level 64))) at f there g)) h
 
+  module _ (name : TheoryName) where
     -- ---- durations
     pub duration_none : (first at : ℕ) (old new : Seen) → is_next m.At (here at) ≡ false → at ≤ length tokens → new ≡ record old { bad = least old.bad (places_where (is_disjoint name) first) }
         → Takes (duration_class name first) text tokens at old new None at

@@ -2,7 +2,7 @@
 use Rattle.grammar.specs.declared.words.WordKind.{WordKind}
 use Rattle.grammar.specs.declared.words.WordKind.TheVariants as kinds
 use Rattle.grammar.specs.Spelled.{word_by}
-use Rattle.std.proofs.Common.{◌≡◌, ◌⊎◌, inl, inr, ℕ, suc, ◌+◌, ◌<◌, ◌≤◌, Bool, true, false, if◌then◌else◌, List, [], ◌∷◌, ◌++◌, length, drop, Option, Some, None, Ok, Err, refl, sym, ◌∙◌, ap, subst, append_assoc, arith}
+use Rattle.std.proofs.Common.{◌≡◌, ◌⊎◌, inl, inr, ℕ, suc, ◌+◌, ◌<◌, ◌≤◌, Bool, true, false, if◌then◌else◌, List, [], ◌∷◌, ◌++◌, length, drop, Option, Some, None, Ok, Err, refl, sym, ◌∙◌, ap, subst, arith}
 use Rattle.std.proofs.lemmas.List.{append-nil}
 use Rattle.lexer.specs.declared.token.Token.{Token}
 use Rattle.syntax_tree.specs.declared.rule.Name.{Name}
@@ -24,8 +24,8 @@ use Rattle.grammar.proofs.Operands.{opening, minus}
 use Rattle.grammar.proofs.TermLaws.{term_law, unary_on}
 use Rattle.grammar.specs.Term.{term_goes_on}
 use Rattle.theory_grammar.specs.declared.seen.Seen.{Seen}
-use Rattle.theory_grammar.specs.State.{least, named, places_of, Extends, Class, Reads, part_class, argument_class, unary_class, term_class, args_class, rest_class}
-use Rattle.theory_grammar.proofs.StateLemmas.{named_append, named_extends, extends_more, places_append, least_append, words_next}
+use Rattle.theory_grammar.specs.State.{least, named, seen_places, Extends, Class, Reads, part_class, argument_class, unary_class, term_class, args_class, rest_class}
+use Rattle.theory_grammar.proofs.StateLemmas.{named_append, named_extends, extends_more, places_join, least_append, words_next}
 use Rattle.theory_grammar.proofs.Classes.{place_behind}
 use Rattle.theory_grammar.proofs.TermReads.{mark_there, two_on, then_fails}
 
@@ -240,8 +240,7 @@ module _ (k : ℕ) (text : List ℕ) (tokens : List Token) where
       let spot = place_behind (argument_class (term_class inside)) (term_goes_on (unary_on k)) (term_law k) text tokens (place + 1) a.form middle a.is a.forward a.within in
       let from : middle + 1 ≡ place + 1 + size (term_class inside).words a.form + 1 = ap (λ n. n + 1) spot in
       let names = b.names ∙ ap (λ z. named z ((rest_class inside).sights b.form (middle + 1))) a.names ∙ sym (named_append old.names one ((rest_class inside).sights b.form (middle + 1))) in
-      let places = b.places ∙ ap (λ z. z ++ places_of tokens ((rest_class inside).sights b.form (middle + 1))) a.places ∙ append_assoc old.places (places_of tokens one) (places_of tokens ((rest_class inside).sights b.form (middle + 1)))
-      ∙ ap (λ z. old.places ++ z) (sym (places_append tokens one ((rest_class inside).sights b.form (middle + 1)))) in
+      let places = places_join tokens old.names mid.names old.places mid.places new.places one ((rest_class inside).sights b.form (middle + 1)) a.names a.places b.places in
       let bad = b.bad ∙ ap (λ z. least z ((rest_class inside).bads b.form (middle + 1))) a.bad ∙ sym (least_append old.bad bads ((rest_class inside).bads b.form (middle + 1))) in
       let tree : (later : List Name) → Extends new.names later → t.Tuple (value ∷ more) ≡ t.Tuple ((term_class inside).tree later a.form ∷ (rest_class inside).tree later b.form) = λ later h.
       (let so : Extends mid.names later = extends_more mid.names new.names later (subst (Extends mid.names) (sym b.names) (named_extends mid.names ((rest_class inside).sights b.form (middle + 1)))) h in
@@ -250,7 +249,7 @@ module _ (k : ℕ) (text : List ℕ) (tokens : List Token) where
     where
       finish : (r : Option (ArgsAt k)) → unary_at (suc k) (at place) ≡ Ok (form_of a.form r, at next)
           → new.names ≡ named old.names ((argument_class (term_class inside)).sights a.form (place + 1) ++ (rest_class inside).sights r (middle + 1))
-          → new.places ≡ old.places ++ places_of tokens ((argument_class (term_class inside)).sights a.form (place + 1) ++ (rest_class inside).sights r (middle + 1))
+          → new.places ≡ old.places ++ seen_places tokens old.names ((argument_class (term_class inside)).sights a.form (place + 1) ++ (rest_class inside).sights r (middle + 1))
           → new.bad ≡ least old.bad ((term_class inside).bads a.form (place + 1) ++ (rest_class inside).bads r (middle + 1))
           → ((later : List Name) → Extends new.names later → t.Tuple (value ∷ more) ≡ t.Tuple ((term_class inside).tree later a.form ∷ (rest_class inside).tree later r))
           → middle + 1 ≡ place + 1 + size (term_class inside).words a.form + 1 → place < next → next ≤ length tokens → Reads here text tokens place old new (t.Tuple (value ∷ more)) Other next
@@ -261,7 +260,7 @@ module _ (k : ℕ) (text : List ℕ) (tokens : List Token) where
         within = within;
         shaped = refl;
         names = names ∙ ap (named old.names) (append-nil ((argument_class (term_class inside)).sights a.form (place + 1)));
-        places = places ∙ ap (λ z. old.places ++ places_of tokens z) (append-nil ((argument_class (term_class inside)).sights a.form (place + 1)));
+        places = places ∙ ap (λ z. old.places ++ seen_places tokens old.names z) (append-nil ((argument_class (term_class inside)).sights a.form (place + 1)));
         bad = bad ∙ ap (least old.bad) (append-nil ((term_class inside).bads a.form (place + 1)));
         tree = tree;
       }
@@ -272,7 +271,7 @@ module _ (k : ℕ) (text : List ℕ) (tokens : List Token) where
         within = within;
         shaped = refl;
         names = names ∙ ap (λ n. named old.names ((argument_class (term_class inside)).sights a.form (place + 1) ++ (args_class inside).sights args n)) from;
-        places = places ∙ ap (λ n. old.places ++ places_of tokens ((argument_class (term_class inside)).sights a.form (place + 1) ++ (args_class inside).sights args n)) from;
+        places = places ∙ ap (λ n. old.places ++ seen_places tokens old.names ((argument_class (term_class inside)).sights a.form (place + 1) ++ (args_class inside).sights args n)) from;
         bad = bad ∙ ap (λ n. least old.bad ((term_class inside).bads a.form (place + 1) ++ (args_class inside).bads args n)) from;
         tree = tree;
       }

@@ -1,5 +1,5 @@
 -- What the clauses of the public readers rest on.
-use Rattle.std.proofs.Common.{◌≡◌, ℕ, ◌+◌, ◌-◌, ◌≤◌, List, [], length, None, Err, sym, ◌∙◌, ap, subst, arith}
+use Rattle.std.proofs.Common.{◌≡◌, ℕ, ◌+◌, ◌-◌, ◌≤◌, List, [], ◌++◌, length, map, None, Err, sym, ◌∙◌, ap, subst, arith}
 use Rattle.std.proofs.lemmas.List.{append-nil, length-append}
 use Rattle.lexer.specs.declared.token.Token.{Token}
 use Rattle.syntax_tree.specs.declared.rule.Name.{Name}
@@ -17,13 +17,13 @@ use Rattle.theory_grammar.specs.declared.fault.Stop.TheVariants as stop
 use Rattle.theory_grammar.specs.declared.seen.Seen.{Seen}
 use Rattle.theory_grammar.specs.declared.parse.ParsedTerm.{ParsedTerm}
 use Rattle.theory_grammar.specs.State.{Reads, Fails, unary_class, term_class}
-use Rattle.theory_grammar.specs.Parsed.{FoundTerm, StandsNone, NoTerm, IsAt, IsTermFault, words_of_term, goes_on_with, is_atom, bad_term, stopped}
-use Rattle.theory_grammar.proofs.StateLemmas.{words_long}
+use Rattle.theory_grammar.specs.Parsed.{FoundTerm, StandsNone, NoTerm, IsAt, IsTermFault, words_of_term, goes_on_with, sights_of_term, is_atom, bad_term, stopped}
+use Rattle.theory_grammar.proofs.StateLemmas.{words_long, starts_seen}
 
 module _ (text : List ℕ) (tokens : List Token) (from : ℕ) (least_from : 1 ≤ from) where
   pub found_term : (names now_names : List Name) (places now_places : List ℕ) (new : Seen) (value : Term) (shape : Shape) (next : ℕ) (parsed : ParsedTerm)
-      → Reads (term_class (unary_class 64)) text tokens (from - 1) (record { names = names; places = places; bad = None }) new value shape next
-      → now_names ≡ new.names → now_places ≡ new.places → parsed ≡ record { term = value; next = next + 1; is_atom = is_atom shape; fault = bad_term text tokens new.bad }
+      → Reads (term_class (unary_class 64)) text tokens (from - 1) (record { names = names; places = []; bad = None }) new value shape next
+      → now_names ≡ new.names → now_places ≡ places ++ map (λ p. p.start) new.places → parsed ≡ record { term = value; next = next + 1; is_atom = is_atom shape; fault = bad_term text tokens new.bad }
       → FoundTerm text tokens from names places now_names now_places parsed
   found_term names now_names places now_places new value shape next parsed r same_names same_places made =
       let behind : parsed.next - 1 ≡ next = ap (λ p. p.next - 1) made ∙ omega arith in
@@ -37,7 +37,7 @@ module _ (text : List ℕ) (tokens : List Token) (from : ℕ) (least_from : 1 �
         within = let w = r.within in omega (arith, w, place);
         tree = ap (λ p. p.term) made ∙ r.tree now_names ([], same_names ∙ sym (append-nil new.names));
         named = same_names ∙ r.names;
-        placed = same_places ∙ r.places;
+        placed = same_places ∙ ap (λ z. places ++ map (λ p. p.start) z) r.places ∙ ap (λ z. places ++ z) (starts_seen tokens names (sights_of_term 64 r.form (from - 1)));
         atom = ap (λ p. p.is_atom) made ∙ ap is_atom r.shaped;
         checked = ap (λ p. p.fault) made ∙ ap (bad_term text tokens) r.bad;
       }

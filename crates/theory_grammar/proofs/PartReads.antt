@@ -1,5 +1,5 @@
 -- What is kept of the parts of conditions and theory atoms.
-use Rattle.std.proofs.Common.{◌≡◌, ℕ, ◌+◌, ◌<◌, ◌≤◌, Bool, true, false, ◌&&◌, if◌then◌else◌, List, [], ◌∷◌, ◌++◌, length, drop, Option, Some, None, Ok, Err, refl, sym, ◌∙◌, ap, subst, append_assoc, arith}
+use Rattle.std.proofs.Common.{◌≡◌, ℕ, ◌+◌, ◌<◌, ◌≤◌, Bool, true, false, ◌&&◌, if◌then◌else◌, List, [], ◌∷◌, ◌++◌, length, drop, Option, Some, None, Ok, Err, refl, sym, ◌∙◌, ap, subst, arith}
 use Rattle.std.specs.Option.{is_some}
 use Rattle.std.proofs.lemmas.List.{append-nil, length-append}
 use Rattle.lexer.specs.declared.token.Token.{Token}
@@ -19,9 +19,9 @@ use Rattle.grammar.specs.TheoryReading.{is_relation, compared_with}
 use Rattle.grammar.proofs.Lawful.{bind_by}
 use Rattle.grammar.proofs.Pairs.{Weak}
 use Rattle.theory_grammar.specs.declared.seen.Seen.{Seen}
-use Rattle.theory_grammar.specs.State.{least, refused, named, places_of, Extends, Class, Reads}
+use Rattle.theory_grammar.specs.State.{least, refused, named, seen_places, Extends, Class, Reads}
 use Rattle.theory_grammar.specs.TheoryState.{Takes, maybe_class, marked_class, more_class, pair_class, judged_class, judged_shape, compared_class, guard_class, whole_class}
-use Rattle.theory_grammar.proofs.StateLemmas.{named_append, named_extends, extends_more, places_append, least_append, refused_least, words_long, words_next}
+use Rattle.theory_grammar.proofs.StateLemmas.{named_append, named_extends, extends_more, places_join, least_append, refused_least, words_long, words_next}
 use Rattle.theory_grammar.proofs.TermReads.{then_fails}
 
 -- ---- signs
@@ -140,7 +140,7 @@ module _ (text : List ℕ) (tokens : List Token) where
     forward = t.forward;
     within = t.within;
     names = t.names ∙ ap (λ s. named s.names (c.sights t.form at)) e;
-    places = t.places ∙ ap (λ s. s.places ++ places_of tokens (c.sights t.form at)) e;
+    places = t.places ∙ ap (λ s. s.places ++ seen_places tokens s.names (c.sights t.form at)) e;
     bad = t.bad ∙ ap (λ s. least s.bad (c.bads t.form at)) e ∙ sym (least_append old.bad (extra at) (c.bads t.form at));
     tree = t.tree;
   }
@@ -165,8 +165,7 @@ module _ (text : List ℕ) (tokens : List Token) where
         forward = omega (arith, f, g);
         within = u.within;
         names = u.names ∙ ap (λ z. named z (two middle)) t.names ∙ sym (named_append old.names one (two middle)) ∙ ap (λ n. named old.names (one ++ two n)) place;
-        places = u.places ∙ ap (λ z. z ++ places_of tokens (two middle)) t.places ∙ append_assoc old.places (places_of tokens one) (places_of tokens (two middle))
-            ∙ ap (λ z. old.places ++ z) (sym (places_append tokens one (two middle))) ∙ ap (λ n. old.places ++ places_of tokens (one ++ two n)) place;
+        places = places_join tokens old.names mid.names old.places mid.places new.places one (two middle) t.names t.places u.places ∙ ap (λ n. old.places ++ seen_places tokens old.names (one ++ two n)) place;
         bad = u.bad ∙ ap (λ z. least z (d.bads u.form middle)) t.bad ∙ sym (least_append old.bad bads (d.bads u.form middle)) ∙ ap (λ n. least old.bad (bads ++ d.bads u.form n)) place;
         tree = λ later h.
             let so : Extends mid.names later = extends_more mid.names new.names later (subst (Extends mid.names) (sym u.names) (named_extends mid.names (two middle))) h in

@@ -1,9 +1,9 @@
 -- Laws of names, places and the least place.
-use Rattle.std.proofs.Common.{◌≡◌, ℕ, ◌+◌, ◌-◌, ◌<◌, ◌==◌, nat_lt, Bool, true, false, if◌then◌else◌, bytes_eq, List, [], ◌∷◌, ◌++◌, length, take, drop, Option, Some, None, refl, sym, ◌∙◌, ap, append_assoc, arith}
+use Rattle.std.proofs.Common.{◌≡◌, ℕ, ◌+◌, ◌-◌, ◌<◌, ◌==◌, nat_lt, Bool, true, false, if◌then◌else◌, bytes_eq, List, [], ◌∷◌, ◌++◌, length, map, take, drop, Option, Some, None, refl, sym, ◌∙◌, ap, append_assoc, arith}
 use Rattle.std.specs.Result.{IfOk}
 use Rattle.std.proofs.Common.{Result, Ok, Err}
-use Rattle.std.proofs.lemmas.List.{append-nil, length-drop, length-map, length-append, drop-drop, map-append}
-use Rattle.std.proofs.lemmas.Bool.{eqb-true, eq-eqb, ne_eqb, ltb-true, ltb-false, le-ltb}
+use Rattle.std.proofs.lemmas.List.{append-nil, length-drop, length-map, length-append, drop-drop}
+use Rattle.std.proofs.lemmas.Bool.{eqb-true, eq-eqb, ne_eqb, ltb-true, ltb-false, lt-ltb, le-ltb}
 use Rattle.lexer.specs.declared.token.Token.{Token}
 use Rattle.syntax_tree.specs.declared.rule.Name.{Name}
 use Rattle.grammar.specs.declared.shape.Shape.{Shape}
@@ -12,7 +12,9 @@ use Rattle.grammar.specs.Word.{words_of, words_at, word_of}
 use Rattle.lexer.specs.Tokens.{token_bytes}
 use Rattle.grammar.specs.Tree.{number_of, number_behind}
 use Rattle.grammar.specs.Sight.{Sight, Sighting, of_variable, of_anonymous, of_interval, of_atom, argument_by, refused_by}
-use Rattle.theory_grammar.specs.State.{lesser, least, refused, argued, start_of, with_name, with_sight, named, places_of, Extends}
+use Rattle.theory_grammar.specs.State.{lesser, least, refused, argued, start_of, with_name, with_sight, named, Extends, noted, adds, seen_places}
+use Rattle.theory_grammar.specs.Kept.{places_of}
+use Rattle.theory_grammar.specs.declared.places.Place.{Place}
 
 -- ---- names
 pub named_append : (names : List Name) (a b : List Sighting) → named names (a ++ b) ≡ named (named names a) b
@@ -73,24 +75,44 @@ pub not_zero : (n : ℕ) → 0 < n → (n == 0) ≡ false
 not_zero n h = ne_eqb n 0 (λ e. omega (arith, h, e))
 
 -- ---- places
-pub places_append : (tokens : List Token) (a b : List Sighting) → places_of tokens (a ++ b) ≡ places_of tokens a ++ places_of tokens b
-places_append tokens a b = map-append (λ s. start_of tokens s.at) a b
+seen_append : (tokens : List Token) (names : List Name) (a b : List Sighting) → seen_places tokens names (a ++ b) ≡ seen_places tokens names a ++ seen_places tokens (named names a) b
+seen_append tokens names [] b = refl
+seen_append tokens names (s ∷ a) b = ap (λ z. noted tokens s.at (adds names s.sight) ∷ z) (seen_append tokens (with_sight names s.sight) a b)
 
-take_all : (xs ys : List ℕ) → take (length xs) (xs ++ ys) ≡ xs
+-- places that are seen, and others behind them
+pub places_join : (tokens : List Token) (old mid : List Name) (first middle last : List Place) (one two : List Sighting) → mid ≡ named old one → middle ≡ first ++ seen_places tokens old one
+    → last ≡ middle ++ seen_places tokens mid two → last ≡ first ++ seen_places tokens old (one ++ two)
+places_join tokens old mid first middle last one two names a b =
+    b ∙ ap (λ z. z ++ seen_places tokens mid two) a ∙ append_assoc first (seen_places tokens old one) (seen_places tokens mid two)
+    ∙ ap (λ z. first ++ (seen_places tokens old one ++ seen_places tokens z two)) names ∙ ap (λ z. first ++ z) (sym (seen_append tokens old one two))
+
+pub starts_seen : (tokens : List Token) (names : List Name) (sights : List Sighting) → map (λ p. p.start) (seen_places tokens names sights) ≡ places_of tokens sights
+starts_seen tokens names [] = refl
+starts_seen tokens names (s ∷ sights) = ap (λ z. start_of tokens s.at ∷ z) (starts_seen tokens (with_sight names s.sight) sights)
+
+-- a name that is new makes names longer
+pub longer : (names : List Name) (name : List ℕ) → nat_lt (length names) (length (with_name names name)) ≡ (number_of names name == 0)
+longer names name = by (number_of names name == 0)
+  where
+    by : (b : Bool) → nat_lt (length names) (length (if b then names ++ record { text = name } ∷ [] else names)) ≡ b
+    by true = let e = length-append names (record { text = name } ∷ []) in lt-ltb (length names) (length (names ++ record { text = name } ∷ [])) (omega (arith, e))
+    by false = le-ltb (length names) (length names) (omega arith)
+
+take_all : {X : Type 0} (xs ys : List X) → take (length xs) (xs ++ ys) ≡ xs
 take_all [] ys = refl
 take_all (x ∷ xs) ys = ap (λ z. x ∷ z) (take_all xs ys)
 
-drop_all_of : (xs ys : List ℕ) → drop (length xs) (xs ++ ys) ≡ ys
+drop_all_of : {X : Type 0} (xs ys : List X) → drop (length xs) (xs ++ ys) ≡ ys
 drop_all_of [] ys = refl
 drop_all_of (x ∷ xs) ys = drop_all_of xs ys
 
-pub argued_places : (tokens : List Token) (old : List ℕ) (sights : List Sighting) (shape : Shape) (at : ℕ)
-    → argued (old ++ places_of tokens sights) shape (length old) (start_of tokens at) ≡ old ++ places_of tokens (argument_by shape at ++ sights)
-argued_places tokens old sights Interval at =
-    ap (λ z. z ++ start_of tokens at ∷ drop (length old) (old ++ places_of tokens sights)) (take_all old (places_of tokens sights))
-    ∙ ap (λ z. old ++ start_of tokens at ∷ z) (drop_all_of old (places_of tokens sights))
-argued_places tokens old sights Atom at = refl
-argued_places tokens old sights Other at = refl
+pub argued_places : (tokens : List Token) (names : List Name) (old : List Place) (sights : List Sighting) (shape : Shape) (at : ℕ)
+    → argued (old ++ seen_places tokens names sights) shape (length old) (noted tokens at true) ≡ old ++ seen_places tokens names (argument_by shape at ++ sights)
+argued_places tokens names old sights Interval at =
+    ap (λ z. z ++ noted tokens at true ∷ drop (length old) (old ++ seen_places tokens names sights)) (take_all old (seen_places tokens names sights))
+    ∙ ap (λ z. old ++ noted tokens at true ∷ z) (drop_all_of old (seen_places tokens names sights))
+argued_places tokens names old sights Atom at = refl
+argued_places tokens names old sights Other at = refl
 
 pub argued_names : (names : List Name) (sights : List Sighting) (shape : Shape) (at : ℕ) → named names (argument_by shape at ++ sights) ≡ named names sights
 argued_names names sights Interval at = refl

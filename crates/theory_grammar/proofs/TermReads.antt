@@ -1,5 +1,5 @@
 -- What is kept of terms and of the operands that hold them.
-use Rattle.std.proofs.Common.{◌≡◌, ℕ, ◌+◌, Bool, true, false, List, [], ◌∷◌, ◌++◌, map, drop, Option, Some, None, Ok, Err, refl, sym, ◌∙◌, ap, subst, append_assoc, arith}
+use Rattle.std.proofs.Common.{◌≡◌, ℕ, ◌+◌, Bool, true, false, List, [], ◌∷◌, ◌++◌, map, drop, Option, Some, None, Ok, Err, refl, sym, ◌∙◌, ap, subst, arith}
 use Rattle.std.proofs.lemmas.List.{append-nil}
 use Rattle.lexer.specs.declared.token.Token.{Token}
 use Rattle.syntax_tree.specs.declared.rule.Name.{Name}
@@ -24,8 +24,8 @@ use Rattle.grammar.proofs.Lawful.{Lawful, bind_by}
 use Rattle.theory_grammar.specs.declared.fault.Stop.{Stop}
 use Rattle.theory_grammar.specs.declared.fault.Stop.TheVariants as stop
 use Rattle.theory_grammar.specs.declared.seen.Seen.{Seen}
-use Rattle.theory_grammar.specs.State.{least, named, places_of, Extends, Class, Reads, Fails, part_class, sum_class, term_class}
-use Rattle.theory_grammar.proofs.StateLemmas.{named_append, named_extends, extends_more, places_append, least_append, words_next}
+use Rattle.theory_grammar.specs.State.{least, named, seen_places, Extends, Class, Reads, Fails, part_class, sum_class, term_class}
+use Rattle.theory_grammar.proofs.StateLemmas.{named_append, named_extends, extends_more, places_join, least_append, words_next}
 use Rattle.theory_grammar.proofs.Classes.{Partial, place_behind, row_end, row_alone}
 
 -- ---- rows that are trees of their own
@@ -50,7 +50,7 @@ module _ {I S : Type 0} (c : Class I Term) (goes_on : I → Word → Bool) (law 
     within = r.within;
     shaped = r.shaped;
     names = r.names ∙ ap (named old.names) (sym (append-nil (c.sights r.form at)));
-    places = r.places ∙ ap (λ z. old.places ++ places_of tokens z) (sym (append-nil (c.sights r.form at)));
+    places = r.places ∙ ap (λ z. old.places ++ seen_places tokens old.names z) (sym (append-nil (c.sights r.form at)));
     bad = r.bad;
     tree = r.tree;
   }
@@ -64,7 +64,7 @@ module _ {I S : Type 0} (c : Class I Term) (goes_on : I → Word → Bool) (law 
   row_many at start old new parts next s p some none = by p.first p.found refl p.many p.names p.places p.bad p.tree (row_end (part_class c) goes_on law sign_word sign (part_of first) (λ s x. part_of (op s) x) text tokens at start old new parts next p none)
     where
       by : (x : I) (found : List (S × I)) → p.found ≡ found → (found ≡ [] → next ≡ start) → new.names ≡ named old.names (along c.sights (size c.words) (record { first = x; rest = found }) at)
-          → new.places ≡ old.places ++ places_of tokens (along c.sights (size c.words) (record { first = x; rest = found }) at)
+          → new.places ≡ old.places ++ seen_places tokens old.names (along c.sights (size c.words) (record { first = x; rest = found }) at)
           → new.bad ≡ least old.bad (along (part_class c).bads (size c.words) (record { first = x; rest = found }) at)
           → ((later : List Name) → Extends new.names later → parts ≡ part_of first (c.tree later x) ∷ map (λ p. part_of (op p.0) (c.tree later p.1)) found)
           → row_with c.read sign (words_at text tokens at) ≡ Ok (record { first = x; rest = found }, words_at text tokens next) → Reads row_class text tokens at old new (whole parts) Other next
@@ -143,8 +143,7 @@ module _ {U : Type 0} (c : Class U Term) (goes_on : SumOf U → Word → Bool) (
         shaped = refl;
         names = b.names ∙ ap (λ z. named z ((sum_class c).sights b.form (middle + 1))) a.names ∙ sym (named_append old.names sights ((sum_class c).sights b.form (middle + 1)))
             ∙ ap (λ n. named old.names (sights ++ (sum_class c).sights b.form n)) from;
-        places = b.places ∙ ap (λ z. z ++ places_of tokens ((sum_class c).sights b.form (middle + 1))) a.places ∙ append_assoc old.places (places_of tokens sights) (places_of tokens ((sum_class c).sights b.form (middle + 1)))
-            ∙ ap (λ z. old.places ++ z) (sym (places_append tokens sights ((sum_class c).sights b.form (middle + 1)))) ∙ ap (λ n. old.places ++ places_of tokens (sights ++ (sum_class c).sights b.form n)) from;
+        places = places_join tokens old.names mid.names old.places mid.places new.places sights ((sum_class c).sights b.form (middle + 1)) a.names a.places b.places ∙ ap (λ n. old.places ++ seen_places tokens old.names (sights ++ (sum_class c).sights b.form n)) from;
         bad = b.bad ∙ ap (λ z. least z (bads b.form (middle + 1))) a.bad ∙ sym (least_append old.bad (bads a.form at) (bads b.form (middle + 1))) ∙ ap (λ n. least old.bad (bads a.form at ++ bads b.form n)) from;
         tree = λ later h.
             let so : Extends mid.names later = extends_more mid.names new.names later (subst (Extends mid.names) (sym b.names) (named_extends mid.names ((sum_class c).sights b.form (middle + 1)))) h in

@@ -1,5 +1,5 @@
 -- What the clauses of the public reader of theory atoms rest on.
-use Rattle.std.proofs.Common.{◌≡◌, ℕ, ◌+◌, ◌-◌, ◌≤◌, List, [], ◌++◌, length, Option, Some, None, Err, refl, sym, ◌∙◌, ap, subst, arith}
+use Rattle.std.proofs.Common.{◌≡◌, ℕ, ◌+◌, ◌-◌, ◌≤◌, List, [], ◌++◌, length, map, Option, Some, None, Err, refl, sym, ◌∙◌, ap, subst, arith}
 use Rattle.std.proofs.lemmas.List.{append-nil, length-append}
 use Rattle.lexer.specs.declared.token.Token.{Token}
 use Rattle.symbols.specs.declared.rel.Rel.{Rel}
@@ -27,14 +27,14 @@ use Rattle.theory_grammar.specs.Kept.{place_of}
 use Rattle.theory_grammar.specs.declared.fault.Stop.{Stop}
 use Rattle.theory_grammar.specs.declared.fault.Stop.TheVariants as stop
 use Rattle.theory_grammar.specs.declared.seen.Seen.{Seen}
-use Rattle.theory_grammar.specs.declared.theory.Parts.{Parts}
+use Rattle.theory_grammar.specs.declared.theory.AtomParts.{AtomParts}
 use Rattle.theory_grammar.specs.declared.theory.ParsedTheory.{ParsedTheory}
 use Rattle.theory_grammar.specs.State.{Fails, least}
 use Rattle.theory_grammar.specs.TheoryState.{relation_there}
 use Rattle.theory_grammar.specs.TheoryParts.{ReadsTheory, with_bad, first_by}
 use Rattle.theory_grammar.specs.Parsed.{IsAt, stopped}
-use Rattle.theory_grammar.specs.ParsedTheory.{FoundTheory, StandsNone, NoTheory, IsTheoryFault, words_of_theory, goes_on_with, fails_of_theory, first_fault}
-use Rattle.theory_grammar.proofs.StateLemmas.{words_long}
+use Rattle.theory_grammar.specs.ParsedTheory.{FoundTheory, StandsNone, NoTheory, IsTheoryFault, words_of_theory, goes_on_with, sights_of_theory, fails_of_theory, first_fault}
+use Rattle.theory_grammar.proofs.StateLemmas.{words_long, starts_seen}
 use Rattle.theory_grammar.proofs.FirstFails.{first_append, bad_first}
 
 -- the relation of a guard, in a tree as in a form
@@ -43,25 +43,25 @@ relation_same names None = refl
 relation_same names (Some guard) = refl
 
 -- failed checks with bad terms among them
-checks_first : (u g : List Failing) (es gs : List ℕ) → first_of None (((u ++ bad_terms es) ++ g) ++ bad_terms gs) ≡ with_bad (first_of (with_bad (first_of None u) (least None es)) g) (least None gs)
-checks_first u g es gs =
-    first_append None ((u ++ bad_terms es) ++ g) (bad_terms gs) ∙ bad_first (first_of None ((u ++ bad_terms es) ++ g)) gs
-    ∙ ap (λ z. with_bad z (least None gs)) (first_append None (u ++ bad_terms es) g ∙ ap (λ z. first_of z g) (first_append None u (bad_terms es) ∙ bad_first (first_of None u) es))
+checks_first : (so_far : Option Failing) (u g : List Failing) (es gs : List ℕ) → first_of so_far (((u ++ bad_terms es) ++ g) ++ bad_terms gs) ≡ with_bad (first_of (with_bad (first_of so_far u) (least None es)) g) (least None gs)
+checks_first so_far u g es gs =
+    first_append so_far ((u ++ bad_terms es) ++ g) (bad_terms gs) ∙ bad_first (first_of so_far ((u ++ bad_terms es) ++ g)) gs
+    ∙ ap (λ z. with_bad z (least None gs)) (first_append so_far (u ++ bad_terms es) g ∙ ap (λ z. first_of z g) (first_append so_far u (bad_terms es) ∙ bad_first (first_of so_far u) es))
 
 module _ (text : List ℕ) (tokens : List Token) where
-  abbrev first_where : ℕ → TheoryName → Option ℕ → Option Rel → ℕ → Option ℕ → Option Failing
-  first_where at name es rel brace gs = with_bad (first_of (with_bad (first_of None (fails_where (is_unknown name) UnknownTheory (at + 1))) es) (fails_where (is_bad_guard name rel) BadGuard (brace + 1))) gs
+  abbrev first_where : Option Failing → ℕ → TheoryName → Option ℕ → Option Rel → ℕ → Option ℕ → Option Failing
+  first_where so_far at name es rel brace gs = with_bad (first_of (with_bad (first_of so_far (fails_where (is_unknown name) UnknownTheory (at + 1))) es) (fails_where (is_bad_guard name rel) BadGuard (brace + 1))) gs
 
-  first_same : (at : ℕ) (old new : Seen) (parts : Parts) (r : ReadsTheory text tokens at old new parts) → first_by parts at ≡ first_of None (fails_of_theory 64 r.form at)
-  first_same at old new parts r =
+  pub first_same : (so_far : Option Failing) (at : ℕ) (old new : Seen) (parts : AtomParts) (r : ReadsTheory text tokens at old new parts) → first_by so_far parts at ≡ first_of so_far (fails_of_theory 64 r.form at)
+  first_same so_far at old new parts r =
       let form = r.form in
       let guard : relation_there parts.guard ≡ relation_of form.guard = ap relation_there (r.guard new.names ([], sym (append-nil new.names))) ∙ relation_same new.names form.guard in
-      ap (λ es. first_where at parts.name es (relation_there parts.guard) parts.brace parts.in_guard) r.in_elements
-      ∙ ap (λ gs. first_where at parts.name (least None (inside parts.name form)) (relation_there parts.guard) parts.brace gs) r.in_guard
-      ∙ ap (λ rel. first_where at parts.name (least None (inside parts.name form)) rel parts.brace (least None (behind form parts.brace))) guard
-      ∙ ap (λ name. first_where at name (least None (inside name form)) (relation_of form.guard) parts.brace (least None (behind form parts.brace))) r.name
-      ∙ ap (λ brace. first_where at (theory_name form.name) (least None (inside (theory_name form.name) form)) (relation_of form.guard) brace (least None (behind form brace))) r.brace
-      ∙ sym (checks_first (fails_where (is_unknown (theory_name form.name)) UnknownTheory (at + 1)) (fails_where (is_bad_guard (theory_name form.name) (relation_of form.guard)) BadGuard (theory_brace (operand_words 64) form at + 1))
+      ap (λ es. first_where so_far at parts.name es (relation_there parts.guard) parts.brace parts.in_guard) r.in_elements
+      ∙ ap (λ gs. first_where so_far at parts.name (least None (inside parts.name form)) (relation_there parts.guard) parts.brace gs) r.in_guard
+      ∙ ap (λ rel. first_where so_far at parts.name (least None (inside parts.name form)) rel parts.brace (least None (behind form parts.brace))) guard
+      ∙ ap (λ name. first_where so_far at name (least None (inside name form)) (relation_of form.guard) parts.brace (least None (behind form parts.brace))) r.name
+      ∙ ap (λ brace. first_where so_far at (theory_name form.name) (least None (inside (theory_name form.name) form)) (relation_of form.guard) brace (least None (behind form brace))) r.brace
+      ∙ sym (checks_first so_far (fails_where (is_unknown (theory_name form.name)) UnknownTheory (at + 1)) (fails_where (is_bad_guard (theory_name form.name) (relation_of form.guard)) BadGuard (theory_brace (operand_words 64) form at + 1))
       (inside (theory_name form.name) form) (behind form (theory_brace (operand_words 64) form at)))
     where
       inside : TheoryName → TheoryAt 64 → List ℕ
@@ -71,9 +71,9 @@ module _ (text : List ℕ) (tokens : List Token) where
       behind form brace = guard_bads (operand_words 64) (operand_shape 64) (operand_bads 64) (operand_is_difference 64) form.guard (brace + 1)
 
   module _ (from : ℕ) (least_from : 1 ≤ from) where
-    pub found_theory : (names now_names : List Name) (places now_places : List ℕ) (new : Seen) (parts : Parts) (parsed : ParsedTheory)
-        → ReadsTheory text tokens (from - 1) (record { names = names; places = places; bad = None }) new parts → now_names ≡ new.names → now_places ≡ new.places
-        → parsed ≡ record { atom = roll-TheoryAtom (record { name = parts.name; elements = parts.elements; guard = parts.guard }); next = parts.next + 1; fault = first_fault text tokens (first_by parts (from - 1)) }
+    pub found_theory : (names now_names : List Name) (places now_places : List ℕ) (new : Seen) (parts : AtomParts) (parsed : ParsedTheory)
+        → ReadsTheory text tokens (from - 1) (record { names = names; places = []; bad = None }) new parts → now_names ≡ new.names → now_places ≡ places ++ map (λ p. p.start) new.places
+        → parsed ≡ record { atom = roll-TheoryAtom (record { name = parts.name; elements = parts.elements; guard = parts.guard }); next = parts.next + 1; fault = first_fault text tokens (first_by None parts (from - 1)) }
         → FoundTheory text tokens from names places now_names now_places parsed
     found_theory names now_names places now_places new parts parsed r same_names same_places made =
         let behind : parsed.next - 1 ≡ parts.next = ap (λ p. p.next - 1) made ∙ omega arith in
@@ -89,8 +89,8 @@ module _ (text : List ℕ) (tokens : List Token) where
               ∙ ap (λ es. roll-TheoryAtom (record { name = theory_name r.form.name; elements = es; guard = parts.guard })) (r.elements now_names ([], same_names ∙ sym (append-nil new.names)))
               ∙ ap (λ g. roll-TheoryAtom (record { name = theory_name r.form.name; elements = items_of (element_tree (operand_tree now_names 64) (unary_tree now_names (operand_tree now_names 64))) r.form.elements; guard = g })) (r.guard now_names ([], same_names ∙ sym (append-nil new.names)));
           named = same_names ∙ r.names;
-          placed = same_places ∙ r.places;
-          checked = ap (λ p. p.fault) made ∙ ap (first_fault text tokens) (first_same (from - 1) (record { names = names; places = places; bad = None }) new parts r);
+          placed = same_places ∙ ap (λ z. places ++ map (λ p. p.start) z) r.places ∙ ap (λ z. places ++ z) (starts_seen tokens names (sights_of_theory 64 r.form (from - 1)));
+          checked = ap (λ p. p.fault) made ∙ ap (first_fault text tokens) (first_same None (from - 1) (record { names = names; places = []; bad = None }) new parts r);
         }
 
     none_there : (f : Fault) → theory_at 64 (words_at text tokens (from - 1)) ≡ Err f → StandsNone text tokens from

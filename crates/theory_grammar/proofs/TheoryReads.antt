@@ -1,5 +1,5 @@
 -- What is kept of theory atoms.
-use Rattle.std.proofs.Common.{◌≡◌, ℕ, ◌+◌, true, false, List, [], ◌∷◌, ◌++◌, length, drop, Option, Some, None, Ok, Err, refl, sym, ◌∙◌, ap, subst, append_assoc, arith}
+use Rattle.std.proofs.Common.{◌≡◌, ℕ, ◌+◌, true, false, List, [], ◌∷◌, ◌++◌, length, drop, Option, Some, None, Ok, Err, refl, sym, ◌∙◌, ap, subst, arith}
 use Rattle.lexer.specs.declared.token.Token.{Token}
 use Rattle.symbols.specs.declared.rel.Rel.{Rel}
 use Rattle.syntax_tree.specs.declared.literal.Guard.{Guard}
@@ -21,11 +21,11 @@ use Rattle.grammar.specs.TheoryReading.{is_name, name_with, elements_with, brace
 use Rattle.grammar.proofs.Lawful.{bind_by}
 use Rattle.grammar.proofs.ElementLaws.{elements_law}
 use Rattle.theory_grammar.specs.declared.seen.Seen.{Seen}
-use Rattle.theory_grammar.specs.declared.theory.Parts.{Parts}
-use Rattle.theory_grammar.specs.State.{least, named, places_of, Extends}
+use Rattle.theory_grammar.specs.declared.theory.AtomParts.{AtomParts}
+use Rattle.theory_grammar.specs.State.{least, named, seen_places, Extends}
 use Rattle.theory_grammar.specs.TheoryState.{Takes, elements_class, guard_class, maybe_bads}
 use Rattle.theory_grammar.specs.TheoryParts.{ReadsTheory}
-use Rattle.theory_grammar.proofs.StateLemmas.{named_append, named_extends, extends_more, places_append, words_next}
+use Rattle.theory_grammar.proofs.StateLemmas.{named_append, named_extends, extends_more, places_join, words_next}
 use Rattle.theory_grammar.proofs.TermReads.{then_fails}
 use Rattle.theory_grammar.proofs.PartReads.{behind_form, marked_fails, pair_second_fails}
 
@@ -130,7 +130,7 @@ module _ (text : List ℕ) (tokens : List Token) where
               ∙ bind_by (behind (here (at + 2))) _ (o, g) (here next) (bind_by (braces_with (level 64) (here (at + 2))) _ o (here (brace + 1)) braces_are ∙ bind_by (guard_with (level 64) (here (brace + 1))) _ g (here next) h))
 
   -- ---- what is read
-  pub theory_read : (at : ℕ) (bytes : List ℕ) (old mid clear new : Seen) (name : TheoryName) (found : List TheoryElement) (brace : ℕ) (in_elements : Option ℕ) (guard : Option Guard) (next : ℕ) (parts : Parts)
+  pub theory_read : (at : ℕ) (bytes : List ℕ) (old mid clear new : Seen) (name : TheoryName) (found : List TheoryElement) (brace : ℕ) (in_elements : Option ℕ) (guard : Option Guard) (next : ℕ) (parts : AtomParts)
       → is_next m.And (here at) ≡ true → here (at + 1) ≡ word.name bytes ∷ here (at + 1 + 1) → is_next m.OpenBrace (here (at + 2)) ≡ true → old.bad ≡ None → name ≡ theory_name bytes
       → Takes (elements_class name) text tokens (at + 3) old mid found brace → is_next m.CloseBrace (here brace) ≡ true → in_elements ≡ mid.bad → clear ≡ record mid { bad = None }
       → Takes guard_class text tokens (brace + 1) clear new guard next
@@ -145,9 +145,8 @@ module _ (text : List ℕ) (tokens : List Token) where
         brace = place;
         name = same;
         names = g.names ∙ ap (λ s. named s.names (guarded (brace + 1))) cleared ∙ ap (λ z. named z (guarded (brace + 1))) e.names ∙ sym (named_append old.names first (guarded (brace + 1))) ∙ ap (λ n. named old.names (first ++ guarded (n + 1))) place;
-        places = g.places ∙ ap (λ s. s.places ++ places_of tokens (guarded (brace + 1))) cleared ∙ ap (λ z. z ++ places_of tokens (guarded (brace + 1))) e.places
-            ∙ append_assoc old.places (places_of tokens first) (places_of tokens (guarded (brace + 1))) ∙ ap (λ z. old.places ++ z) (sym (places_append tokens first (guarded (brace + 1))))
-            ∙ ap (λ n. old.places ++ places_of tokens (first ++ guarded (n + 1))) place;
+        places = places_join tokens old.names mid.names old.places mid.places new.places first (guarded (brace + 1)) e.names e.places (g.places ∙ ap (λ s. s.places ++ seen_places tokens s.names (guarded (brace + 1))) cleared)
+            ∙ ap (λ n. old.places ++ seen_places tokens old.names (first ++ guarded (n + 1))) place;
         in_elements = kept ∙ e.bad ∙ ap (λ b. least b ((elements_class name).bads e.form (at + 3))) empty ∙ ap (least None) (elements_bad name e.form (at + 3));
         in_guard = g.bad ∙ ap (λ s. least s.bad (guard_class.bads g.form (brace + 1))) cleared ∙ ap (least None) (guard_bad g.form (brace + 1));
         elements = λ later h. e.tree later (extends_more mid.names new.names later (subst (Extends mid.names) (sym (g.names ∙ ap (λ s. named s.names (guarded (brace + 1))) cleared)) (named_extends mid.names (guarded (brace + 1)))) h);

@@ -1,5 +1,5 @@
 -- What is kept of a form beside its tree: the names of its variables, places, and the first failed check.
-use Rattle.std.specs.Prelude.{◌≡◌, ℕ, ◌==◌, nat_lt, if◌then◌else◌, List, [], ◌∷◌, ◌++◌, length, take, drop, map, Option, Some, None, slice_index_or}
+use Rattle.std.specs.Prelude.{◌≡◌, ℕ, ◌==◌, nat_lt, if◌then◌else◌, List, [], ◌∷◌, ◌++◌, length, map, Option, Some, None, slice_index_or}
 use Rattle.lexer.specs.declared.token.Token.{Token}
 use Rattle.syntax_tree.specs.declared.rule.Name.{Name}
 use Rattle.grammar.specs.declared.shape.Shape.{Shape}
@@ -27,12 +27,6 @@ abbrev pub refused : Option ℕ → Shape → ℕ → Option ℕ
 refused bad Interval at = lesser bad at
 refused bad Atom at = bad
 refused bad Other at = bad
-
--- an argument that is an interval stands before what was seen inside it
-abbrev pub argued : List ℕ → Shape → ℕ → ℕ → List ℕ
-argued places Interval before place = take before places ++ place ∷ drop before places
-argued places Atom before place = places
-argued places Other before place = places
 
 -- where a word begins
 abbrev pub start_of : List Token → ℕ → ℕ

@@ -1,5 +1,5 @@
--- What the readers keep beside the words. Only this crate's code and its laws cite this file.
-use Rattle.std.specs.Prelude.{◌≡◌, ℕ, ◌<◌, ◌≤◌, if◌then◌else◌, List, [], ◌∷◌, ◌++◌, length, drop, map, Option, Some, None, Result, Ok, Err}
+-- What the readers keep beside the words. The readers of this crate and of statements, and their laws, cite this file.
+use Rattle.std.specs.Prelude.{◌≡◌, ℕ, ◌<◌, ◌≤◌, ◌==◌, Bool, true, false, if◌then◌else◌, List, [], ◌∷◌, ◌++◌, length, take, drop, map, Option, Some, None, Result, Ok, Err}
 use Rattle.lexer.specs.declared.token.Token.{Token}
 use Rattle.syntax_tree.specs.declared.rule.Name.{Name}
 use Rattle.syntax_tree.specs.declared.term.Term.{Term}
@@ -7,21 +7,44 @@ use Rattle.syntax_tree.specs.declared.term.Op.{Op}
 use Rattle.syntax_tree.specs.declared.term.Op.TheVariants as op
 use Rattle.syntax_tree.specs.declared.term.Part.{Part}
 use Rattle.grammar.specs.declared.shape.Shape.{Shape}
-use Rattle.grammar.specs.declared.shape.Shape.TheVariants.{Other}
+use Rattle.grammar.specs.declared.shape.Shape.TheVariants.{Atom, Interval, Other}
 use Rattle.grammar.specs.declared.mark.Mark.TheVariants as m
 use Rattle.grammar.specs.Word.{Word, words_at, is_next}
 use Rattle.grammar.specs.Word as word
 use Rattle.grammar.specs.Row.{Row, row_words}
 use Rattle.grammar.specs.Term.{UnaryAt, ProductOf, SumOf, TermOf, ArgsOf, multiplying, multiplying_word, adding, adding_word, comma, comma_word, unary_words, operand_words, product_words, sum_words, term_words, args_words}
 use Rattle.grammar.specs.Shape.{unary_shape, operand_shape, product_shape, sum_shape, term_shape}
-use Rattle.grammar.specs.Tree.{unary_tree, operand_tree, product_tree, sum_tree, term_tree, part_of, multiplying_op, adding_op}
-use Rattle.grammar.specs.Sight.{Sighting, size, along, part_bads, argument_by, unary_sights, operand_sights, product_sights, sum_sights, term_sights, unary_bads, operand_bads, product_bads, sum_bads, term_bads}
+use Rattle.grammar.specs.Tree.{number_of, unary_tree, operand_tree, product_tree, sum_tree, term_tree, part_of, multiplying_op, adding_op}
+use Rattle.grammar.specs.Sight.{Sight, Sighting, of_variable, of_anonymous, of_interval, of_atom, size, along, part_bads, argument_by, unary_sights, operand_sights, product_sights, sum_sights, term_sights, unary_bads, operand_bads, product_bads, sum_bads, term_bads}
 use Rattle.grammar.specs.Reading.{Expected, TooDeep, Outcome, Reader, and_then, before, row_with, product_with, sum_with, term_with, args_with, unary_at}
 use Rattle.theory_grammar.specs.declared.fault.Stop.{Stop}
 use Rattle.theory_grammar.specs.declared.fault.Stop.TheVariants as stop
+use Rattle.theory_grammar.specs.declared.places.Place.{Place}
 use Rattle.theory_grammar.specs.declared.seen.Seen.{Seen}
-use Rattle.theory_grammar.specs.declared.term.ReadTerm.{ReadTerm}
-pub use Rattle.theory_grammar.specs.Kept.{lesser, least, refused, argued, start_of, with_name, with_sight, named, places_of, Extends}
+use Rattle.theory_grammar.specs.declared.read_term.ReadTerm.{ReadTerm}
+pub use Rattle.theory_grammar.specs.Kept.{lesser, least, refused, start_of, with_name, with_sight, named, Extends}
+
+-- a place that is noted
+abbrev pub noted : List Token → ℕ → Bool → Place
+noted tokens at adds = record { start = start_of tokens at; at = at; adds = adds }
+
+-- an argument that is an interval stands before what was seen inside it
+abbrev pub argued : List Place → Shape → ℕ → Place → List Place
+argued places Interval before place = take before places ++ place ∷ drop before places
+argued places Atom before place = places
+argued places Other before place = places
+
+-- a rule with these names has one variable more with a sight
+abbrev pub adds : List Name → Sight → Bool
+adds names (of_variable name) = number_of names name == 0
+adds names of_anonymous = true
+adds names of_interval = true
+adds names of_atom = false
+
+-- the places of what is seen where these names were seen before
+abbrev pub seen_places : List Token → List Name → List Sighting → List Place
+seen_places tokens names [] = []
+seen_places tokens names (s ∷ sights) = noted tokens s.at (adds names s.sight) ∷ seen_places tokens (with_sight names s.sight) sights
 
 -- a class of forms: their words, their reader, and what a form gives
 pub record Class (A X : Type 0) : Type 0 where
@@ -40,7 +63,7 @@ pub record Reads {A X : Type 0} (class : Class A X) (text : List ℕ) (tokens : 
   pub within : next ≤ length tokens
   pub shaped : shape ≡ class.shape form
   pub names : new.names ≡ named old.names (class.sights form at)
-  pub places : new.places ≡ old.places ++ places_of tokens (class.sights form at)
+  pub places : new.places ≡ old.places ++ seen_places tokens old.names (class.sights form at)
   pub bad : new.bad ≡ least old.bad (class.bads form at)
   pub tree : (later : List Name) → Extends new.names later → value ≡ class.tree later form
 

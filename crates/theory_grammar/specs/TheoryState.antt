@@ -1,5 +1,6 @@
--- The classes of conditions and theory atoms. Only this crate's code and its laws cite this file.
+-- The classes of conditions and theory atoms. The readers of this crate and of statements, and their laws, cite this file.
 use Rattle.std.specs.Prelude.{◌≡◌, ℕ, ◌+◌, ◌≤◌, length, Result, Ok, Err, Bool, true, false, not, ◌&&◌, if◌then◌else◌, Option, Some, None, List, [], ◌∷◌, ◌++◌}
+use Rattle.std.specs.Option.{is_some}
 use Rattle.symbols.specs.declared.rel.Rel.{Rel}
 use Rattle.syntax_tree.specs.declared.rule.Name.{Name}
 use Rattle.syntax_tree.specs.declared.term.Term.{Term, out-Term}
@@ -26,10 +27,10 @@ use Rattle.grammar.specs.Sight.{size, operand_sights, operand_bads, atom_bads}
 use Rattle.grammar.specs.Theory.{ConditionOf, PlacesOf, GivenOf, ElementOf, rel_word, semicolon, semicolon_word, condition_words, element_words}
 use Rattle.grammar.specs.StatementTree.{items_of, condition_tree, given_trees, guard_of, guard_tree, maybe_tree, element_tree}
 use Rattle.grammar.specs.StatementSight.{atom_seen, condition_sights, element_sights}
-use Rattle.grammar.specs.Check.{is_equal, is_diff, is_dom, is_disjoint, has_one_place, places_where, operand_is_difference, unary_is_difference, term_is_difference, condition_bads, only_bads, element_bads, second_bads}
+use Rattle.grammar.specs.Check.{is_equal, is_diff, is_dom, is_disjoint, has_one_place, places_where, operand_is_difference, unary_is_difference, term_is_difference, condition_bads, given_bads, element_bads, second_bads}
 use Rattle.grammar.specs.Reading.{maybe_with, marked_with, pair_with, level}
 use Rattle.grammar.specs.TheoryReading.{begins, begins_term, is_relation, atom_with, compared_with, condition_with, element_with}
-use Rattle.theory_grammar.specs.State.{Class, Fails, least, named, places_of, Extends, unary_class, part_class, term_class, list_class}
+use Rattle.theory_grammar.specs.State.{Class, Fails, least, named, seen_places, Extends, unary_class, part_class, term_class, list_class}
 use Rattle.theory_grammar.specs.declared.seen.Seen.{Seen}
 use Rattle.theory_grammar.specs.declared.fault.Stop.{Stop}
 
@@ -167,10 +168,13 @@ conditions_class = list_class condition_class comma_word comma (λ x. x) (λ sig
 abbrev pub held_class : Class (Option (Row (ConditionOf (Operand 64) (Room 64)) (Unit {0}))) (List Literal)
 held_class = maybe_class begins (λ names o. items_of (condition_class.tree names) o) (maybe_gives conditions_class.bads) conditions_class
 
--- what stands behind an element
-abbrev pub given_class : TheoryName → Class (GivenOf (Operand 64) (Room 64)) (List Literal)
-given_class name =
-    maybe_class (is_word m.Colon) (λ names o. given_trees (operand_tree names 64) (unary_tree names (operand_tree names 64)) o) (only_bads (operand_words 64) (operand_shape 64) (operand_bads 64) (operand_is_difference 64) name)
+-- what stands behind an element, where a condition may be refused
+abbrev pub refused_bads : Bool → GivenOf (Operand 64) (Room 64) → ℕ → List ℕ
+refused_bads refused condition at = places_where (is_some condition && refused) at ++ given_bads (operand_words 64) (operand_shape 64) (operand_bads 64) (operand_is_difference 64) condition at
+
+abbrev pub given_class : Bool → Class (GivenOf (Operand 64) (Room 64)) (List Literal)
+given_class refused =
+    maybe_class (is_word m.Colon) (λ names o. given_trees (operand_tree names 64) (unary_tree names (operand_tree names 64)) o) (refused_bads refused)
     (marked_class m.Colon held_class)
 
 -- a duration, in an element that begins at a place
@@ -203,7 +207,7 @@ first_class name = record {
 }
 
 abbrev pub parts_class : TheoryName → ℕ → Class (TermAt 64 × (Option (TermAt 64) × (Option (PlacesOf (Operand 64) (Room 64)) × GivenOf (Operand 64) (Room 64)))) (Term × (Option Term × (List Term × List Literal)))
-parts_class name first = pair_class (first_class name) (pair_class (duration_class name first) (pair_class (places_class name) (given_class name)))
+parts_class name first = pair_class (first_class name) (pair_class (duration_class name first) (pair_class (places_class name) (given_class (is_diff name))))
 
 abbrev pub element_class : TheoryName → Class (ElementOf (Operand 64) (Room 64)) TheoryElement
 element_class name = record {
@@ -246,7 +250,7 @@ pub record Takes {A X : Type 0} (class : Class A X) (text : List ℕ) (tokens : 
   pub forward : at ≤ next
   pub within : next ≤ length tokens
   pub names : new.names ≡ named old.names (class.sights form at)
-  pub places : new.places ≡ old.places ++ places_of tokens (class.sights form at)
+  pub places : new.places ≡ old.places ++ seen_places tokens old.names (class.sights form at)
   pub bad : new.bad ≡ least old.bad (class.bads form at)
   pub tree : (later : List Name) → Extends new.names later → value ≡ class.tree later form
 

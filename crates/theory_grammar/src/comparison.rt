@@ -10,9 +10,10 @@ ghost use Rattle.theory_grammar.specs.TheoryState.{PlainTake, judged_class, judg
 
 use crate::fault::Stop;
 use crate::parse::MAX_DEPTH;
+use crate::read_term::ReadTerm;
 use crate::seen::Seen;
 use crate::signs::relation;
-use crate::term::{ReadTerm, term};
+use crate::term::term;
 use crate::theory_names::is_equal;
 use grammar::Shape;
 use lexer::Token;
@@ -27,8 +28,8 @@ fn judged_shape(free: bool, shape: Shape) -> Shape
     if free { Shape::Other } else { shape }
 }
 
-// The term at a place, which may be an interval where that is free.
-pub(crate) fn judged_term(
+/// The term at a place, which may be an interval where that is free.
+pub fn judged_term(
     alloc: Global,
     text: &[u8],
     tokens: &[Token],
@@ -56,8 +57,8 @@ fn is_free(free: bool, rel: Rel) -> bool
     free && is_equal(rel)
 }
 
-// The relation at a place and the term behind it, which may be an interval behind `=` where that is free.
-pub(crate) fn compared(
+/// The relation at a place and the term behind it, which may be an interval behind `=` where that is free.
+pub fn compared(
     alloc: Global,
     text: &[u8],
     tokens: &[Token],

@@ -14,16 +14,15 @@ use crate::parse::MAX_DEPTH;
 use crate::seen::Seen;
 use crate::signs::relation;
 use crate::term::named;
-use crate::theory_names::is_diff;
 use crate::words::{begins, is_not};
 use grammar::{Mark, Shape, WordKind, is_mark, word_at};
 use lexer::Token;
 use sqlite_items::Items;
 use std::alloc::Global;
-use syntax_tree::{Literal, Term, TheoryName};
+use syntax_tree::{Literal, Term};
 
-// The atom at a place.
-fn atom(
+/// The atom at a place.
+pub fn atom(
     alloc: Global,
     text: &[u8],
     tokens: &[Token],
@@ -104,8 +103,8 @@ fn condition(
     }
 }
 
-// The atom or the comparison at a place.
-fn positive(
+/// The atom or the comparison at a place, where no `not` stands.
+pub fn positive(
     alloc: Global,
     text: &[u8],
     tokens: &[Token],
@@ -190,22 +189,22 @@ fn held(
     conditions(alloc, text, tokens, at, seen)
 }
 
-// What stands behind an element of the atom with this name: nothing, `:`, or `:` and conditions.
-pub(crate) fn given(
+/// What stands behind an element: nothing, `:`, or `:` and conditions. Where it is refused, `:` is a bad term.
+pub fn given(
     alloc: Global,
     text: &[u8],
     tokens: &[Token],
     at: usize,
-    name: TheoryName,
+    refused: bool,
     seen: &mut Seen,
 ) -> Result<(Items<Literal>, usize), Stop>
     requires tokens { AreTokens text.now tokens.now }
     requires at { at ≤ length tokens.now }
-    ensures { PlainTake (given_class name) text.now tokens.now at seen.old seen.new result }
+    ensures { PlainTake (given_class refused) text.now tokens.now at seen.old seen.new result }
 {
     if !is_mark(text, tokens, at, Mark::Colon) {
         return Ok((Items::new(alloc), at));
     }
-    seen.fail_at(is_diff(name), at);
+    seen.fail_at(refused, at);
     held(alloc, text, tokens, at + 1, seen)
 }

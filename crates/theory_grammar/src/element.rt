@@ -8,8 +8,8 @@ ghost use Rattle.theory_grammar.specs.TheoryState.{PlainTake, first_class, durat
 use crate::comparison::judged_term;
 use crate::condition::given;
 use crate::fault::Stop;
+use crate::read_term::ReadTerm;
 use crate::seen::Seen;
-use crate::term::ReadTerm;
 use crate::theory_names::{has_one_place, is_diff, is_disjoint, is_dom};
 use crate::words::begins_term;
 use grammar::{Mark, is_mark};
@@ -199,7 +199,7 @@ fn element(
         Ok(read) => read,
         Err(stop) => return Err(stop),
     };
-    match given(alloc, text, tokens, last, name, seen) {
+    match given(alloc, text, tokens, last, is_diff(name), seen) {
         Ok((condition, next)) => {
             Ok((
                 TheoryElement {

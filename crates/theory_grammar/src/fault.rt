@@ -29,10 +29,12 @@ pub enum ParseStop {
     Memory,
 }
 
-// Why a form is not read; places are those of words.
+/// Why a form is not read; places are those of words, from 0.
 #[derive(Clone, Copy, Debug, PartialEq, Eq)]
-pub(crate) enum Stop {
+pub enum Stop {
+    /// No form goes on with the word there.
     Expected(usize),
+    /// Only one that nests deeper than 64 does.
     TooDeep(usize),
     Memory,
 }

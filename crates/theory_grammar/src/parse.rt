@@ -5,8 +5,10 @@ ghost use Rattle.theory_grammar.specs.Kept.{place_of as place_there};
 ghost use Rattle.theory_grammar.specs.Parsed as spec;
 
 use crate::fault::{ParseCause, ParseFault, ParseStop, Stop};
+use crate::places::give_starts;
+use crate::read_term::ReadTerm;
 use crate::seen::Seen;
-use crate::term::{ReadTerm, term};
+use crate::term::term;
 use grammar::Shape;
 use lexer::Token;
 use std::alloc::Global;
@@ -107,7 +109,7 @@ pub fn parse_term(
 {
     let mut seen = Seen {
         names: replace(names, Listed::new(alloc)),
-        places: replace(places, Listed::new(alloc)),
+        places: Listed::new(alloc),
         bad: None,
     };
     let result = term(alloc, text, tokens, from - 1, MAX_DEPTH, &mut seen);
@@ -117,7 +119,10 @@ pub fn parse_term(
         bad,
     } = seen;
     *names = all_names;
-    *places = all_places;
+    match give_starts(places, all_places) {
+        Ok(()) => {}
+        Err(_) => return Err(ParseStop::Memory),
+    }
     match result {
         Ok(read) => Ok(ParsedTerm {
             term: read.term,

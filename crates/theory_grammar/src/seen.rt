@@ -1,23 +1,25 @@
 // What was seen while reading.
-ghost use Rattle.std.specs.Prelude.{◌≡◌, ◌<◌, ◌≤◌, ◌++◌, ◌∷◌, [], length, take, drop, OnOk, IfOk};
+ghost use Rattle.std.specs.Prelude.{◌≡◌, ◌<◌, ◌≤◌, ◌==◌, true, false, ◌++◌, ◌∷◌, [], length, take, drop, OnOk, IfOk};
 ghost use Rattle.grammar.specs.Check.{places_where};
 ghost use Rattle.grammar.specs.Tree.{number_of};
-ghost use Rattle.theory_grammar.specs.State.{lesser, least, refused, start_of, argued, with_name};
+ghost use Rattle.theory_grammar.specs.State.{lesser, least, refused, noted, argued, with_name};
 
 use crate::names::number_for;
-use crate::places::insert;
+use crate::places::{Place, insert, place_at};
 use grammar::Shape;
 use lexer::Token;
 use std::alloc::Global;
 use symbols::{Listed, Memory};
 use syntax_tree::Name;
 
-// The names and the places of a rule so far, and the first word, by its number, where an interval stands
-// that may not.
+/// What was seen of a rule so far.
 #[derive(Drop)]
-pub(crate) struct Seen {
+pub struct Seen {
+    /// The named variables by number, from 1.
     pub names: Listed<Name>,
-    pub places: Listed<usize>,
+    /// In the text's order, an interval and an atom before what is inside it.
+    pub places: Listed<Place>,
+    /// The least word, by its number from 0, where a term stands that may not, or a mark.
     pub bad: Option<usize>,
 }
 
@@ -32,12 +34,12 @@ fn lesser(so_far: Option<usize>, at: usize) -> Option<usize>
 }
 
 impl Seen {
-    // Notes where a word begins.
-    pub(crate) fn see(&mut self, tokens: &[Token], at: usize) -> Result<(), Memory>
+    // Notes where a variable stands.
+    pub(crate) fn see(&mut self, tokens: &[Token], at: usize, adds: bool) -> Result<(), Memory>
         requires { at < length tokens.now }
-        ensures { OnOk result (self.new ≡ record self.old { places = self.old.places ++ start_of tokens.now at ∷ [] }) }
+        ensures { OnOk result (self.new ≡ record self.old { places = self.old.places ++ noted tokens.now at adds ∷ [] }) }
     {
-        self.places.push(tokens[at].start)
+        self.places.push(place_at(tokens, at, adds))
     }
 
     // Notes where a variable stands, and gives its number.
@@ -49,10 +51,13 @@ impl Seen {
         name: &[u8],
     ) -> Result<u32, Memory>
         requires { at < length tokens.now }
-        ensures { IfOk result (λ number. (self.new ≡ record self.old { names = with_name self.old.names name.now; places = self.old.places ++ start_of tokens.now at ∷ [] }) × (number ≡ number_of self.new.names name.now)) }
+        ensures { IfOk result (λ number. (self.new ≡ record self.old { names = with_name self.old.names name.now; places = self.old.places ++ noted tokens.now at (number_of self.old.names name.now == 0) ∷ [] }) × (number ≡ number_of self.new.names name.now)) }
     {
-        self.see(tokens, at)?;
-        number_for(alloc, &mut self.names, name)
+        let known = self.names.len();
+        let number = number_for(alloc, &mut self.names, name)?;
+        let adds = known < self.names.len();
+        self.see(tokens, at, adds)?;
+        Ok(number)
     }
 
     // Notes an argument, before what was noted inside it, where it is an interval.
@@ -65,10 +70,10 @@ impl Seen {
     ) -> Result<(), Memory>
         requires before { before ≤ length self.old.places }
         requires at { at < length tokens.now }
-        ensures { OnOk result (self.new ≡ record self.old { places = argued self.old.places shape before (start_of tokens.now at) }) }
+        ensures { OnOk result (self.new ≡ record self.old { places = argued self.old.places shape before (noted tokens.now at true) }) }
     {
         match shape {
-            Shape::Interval => insert(&mut self.places, before, tokens[at].start),
+            Shape::Interval => insert(&mut self.places, before, place_at(tokens, at, true)),
             _ => Ok(()),
         }
     }
@@ -82,13 +87,14 @@ impl Seen {
         }
     }
 
-    // Notes an atom, before what was noted inside it.
-    pub(crate) fn enter(&mut self, before: usize, tokens: &[Token], at: usize) -> Result<(), Memory>
+    /// Notes an atom that was read from a place on, before what was noted inside it; `before` is the number of
+    /// places before it.
+    pub fn enter(&mut self, before: usize, tokens: &[Token], at: usize) -> Result<(), Memory>
         requires before { before ≤ length self.old.places }
         requires at { at < length tokens.now }
-        ensures { OnOk result (self.new ≡ record self.old { places = take before self.old.places ++ start_of tokens.now at ∷ drop before self.old.places }) }
+        ensures { OnOk result (self.new ≡ record self.old { places = take before self.old.places ++ noted tokens.now at false ∷ drop before self.old.places }) }
     {
-        insert(&mut self.places, before, tokens[at].start)
+        insert(&mut self.places, before, place_at(tokens, at, false))
     }
 
     // Notes a word where a check fails, if it does.

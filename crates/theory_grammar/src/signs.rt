@@ -59,8 +59,8 @@ fn adding_op(mark: Mark) -> Option<Op>
     }
 }
 
-// The relation at a place.
-pub(crate) fn relation(text: &[u8], tokens: &[Token], at: usize) -> Option<Rel>
+/// The relation at a place.
+pub fn relation(text: &[u8], tokens: &[Token], at: usize) -> Option<Rel>
     requires { AreTokens text.now tokens.now }
     ensures is { result ≡ sign_at relation_there (words_at text.now tokens.now at) }
     ensures within { IfSome result (λ rel. at < length tokens.now) }

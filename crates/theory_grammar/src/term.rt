@@ -1,54 +1,23 @@
 // Terms, and what stands in them. Places are those of words, and `depth` is how deep argument lists,
 // parentheses and signs may nest from there.
-ghost use Rattle.std.specs.Prelude.{◌≡◌, ◌+◌, ◌<◌, ◌≤◌, ◌∷◌, length, IfOk, IfErr};
+ghost use Rattle.std.specs.Prelude.{◌+◌, ◌≡◌, ◌<◌, ◌≤◌, ◌∷◌, length};
 ghost use Rattle.grammar.specs.Spelled.{AreTokens, bytes_at as bytes_there, word_by};
 ghost use Rattle.grammar.specs.Word.{words_at};
 ghost use Rattle.grammar.specs.declared.mark.Mark.TheVariants as mark;
 ghost use Rattle.grammar.specs.declared.words.WordKind.TheVariants as kind;
-ghost use Rattle.grammar.specs.declared.shape.Shape.TheVariants as shape;
-ghost use Rattle.grammar.specs.Shape.{grouped as grouped_by};
-ghost use Rattle.syntax_tree.specs.declared.term.Term.TheVariants as t;
-ghost use Rattle.theory_grammar.specs.declared.fault.Stop.TheVariants as stop;
 ghost use Rattle.theory_grammar.specs.State.{TermRead, PlainRead, unary_class, part_class, product_class, sum_class, term_class, argument_class, args_class, rest_class};
 
 use crate::fault::Stop;
+use crate::leaf::{anonymous, number, string, variable};
+use crate::read_term::{ReadTerm, grouped, interval, joined, other};
 use crate::seen::Seen;
 use crate::signs::{adding, multiplying};
-use grammar::{Mark, Shape, WordKind, bytes_at, is_mark, number_of, string_content, word_at};
+use grammar::{Mark, Shape, WordKind, bytes_at, is_mark, word_at};
 use lexer::Token;
 use sqlite_items::{Boxed, Items};
 use std::alloc::Global;
 use symbols::Listed;
 use syntax_tree::{Op, Part, Term};
-
-// A term that was read, what it is as a whole, and the place behind it.
-#[derive(Drop)]
-pub(crate) struct ReadTerm {
-    pub term: Term,
-    pub shape: Shape,
-    pub next: usize,
-}
-
-// A term that is neither an atom nor an interval.
-fn other(term: Term, next: usize) -> ReadTerm
-    ensures { result ≡ record { term = term; shape = shape.Other; next = next } }
-{
-    ReadTerm {
-        term,
-        shape: Shape::Other,
-        next,
-    }
-}
-
-// What a term in parentheses is.
-fn grouped(shape: Shape) -> Shape
-    ensures { result ≡ grouped_by shape }
-{
-    match shape {
-        Shape::Interval => Shape::Interval,
-        _ => Shape::Other,
-    }
-}
 
 // The operand at a place.
 #[cycle(term)]
@@ -94,81 +63,6 @@ fn operand(
         WordKind::Name => named(alloc, text, tokens, at, depth, seen),
         WordKind::Mark(mark) => opened(alloc, text, tokens, at, depth, seen, mark),
         WordKind::Not | WordKind::Const | WordKind::Show => Err(Stop::Expected(at)),
-    }
-}
-
-// The number at a place.
-fn number(
-    text: &[u8],
-    tokens: &[Token],
-    at: usize,
-    depth: usize,
-    seen: &mut Seen,
-) -> Result<ReadTerm, Stop>
-    requires tokens { AreTokens text.now tokens.now }
-    requires at { at < length tokens.now }
-    requires word { words_at text.now tokens.now at ≡ word_by kind.Number (bytes_there text.now tokens.now at) ∷ words_at text.now tokens.now (at + 1) }
-    ensures { TermRead (unary_class depth) text.now tokens.now at seen.old seen.new result }
-{
-    Ok(other(Term::Number(number_of(bytes_at(text, tokens, at))), at + 1))
-}
-
-// The string at a place.
-fn string(
-    alloc: Global,
-    text: &[u8],
-    tokens: &[Token],
-    at: usize,
-    depth: usize,
-    seen: &mut Seen,
-) -> Result<ReadTerm, Stop>
-    requires tokens { AreTokens text.now tokens.now }
-    requires at { at < length tokens.now }
-    requires word { words_at text.now tokens.now at ≡ word_by kind.Text (bytes_there text.now tokens.now at) ∷ words_at text.now tokens.now (at + 1) }
-    ensures { TermRead (unary_class depth) text.now tokens.now at seen.old seen.new result }
-{
-    match string_content(alloc, bytes_at(text, tokens, at)) {
-        Ok(content) => Ok(other(Term::Text(content), at + 1)),
-        Err(_) => Err(Stop::Memory),
-    }
-}
-
-// The variable at a place.
-fn variable(
-    alloc: Global,
-    text: &[u8],
-    tokens: &[Token],
-    at: usize,
-    depth: usize,
-    seen: &mut Seen,
-) -> Result<ReadTerm, Stop>
-    requires tokens { AreTokens text.now tokens.now }
-    requires at { at < length tokens.now }
-    requires word { words_at text.now tokens.now at ≡ word_by kind.Variable (bytes_there text.now tokens.now at) ∷ words_at text.now tokens.now (at + 1) }
-    ensures { TermRead (unary_class depth) text.now tokens.now at seen.old seen.new result }
-{
-    match seen.number(alloc, tokens, at, bytes_at(text, tokens, at)) {
-        Ok(number) => Ok(other(Term::Variable(number), at + 1)),
-        Err(_) => Err(Stop::Memory),
-    }
-}
-
-// The variable without a name at a place.
-fn anonymous(
-    text: &[u8],
-    tokens: &[Token],
-    at: usize,
-    depth: usize,
-    seen: &mut Seen,
-) -> Result<ReadTerm, Stop>
-    requires tokens { AreTokens text.now tokens.now }
-    requires at { at < length tokens.now }
-    requires word { words_at text.now tokens.now at ≡ word_by kind.Anonymous (bytes_there text.now tokens.now at) ∷ words_at text.now tokens.now (at + 1) }
-    ensures { TermRead (unary_class depth) text.now tokens.now at seen.old seen.new result }
-{
-    match seen.see(tokens, at) {
-        Ok(()) => Ok(other(Term::Anonymous, at + 1)),
-        Err(_) => Err(Stop::Memory),
     }
 }
 
@@ -316,21 +210,6 @@ fn bracket(
     }
 }
 
-// The tuple of a place and more of them.
-fn joined(alloc: Global, first: Term, more: Items<Term>, next: usize) -> Result<ReadTerm, Stop>
-    ensures ok { IfOk result (λ r. r ≡ record { term = t.Tuple (first ∷ more); shape = shape.Other; next = next }) }
-    ensures err { IfErr result (λ failed. failed ≡ stop.Memory) }
-{
-    let mut places = Items::new(alloc);
-    if places.push(first).is_err() {
-        return Err(Stop::Memory);
-    }
-    if places.append(more).is_err() {
-        return Err(Stop::Memory);
-    }
-    Ok(other(Term::Tuple(places), next))
-}
-
 // The further places of a tuple, with its closing parenthesis.
 #[cycle(term)]
 fn behind_comma(
@@ -450,21 +329,6 @@ pub(crate) fn term(
             interval(alloc, left.term, right.term, right.next)
         }
         Err(stop) => Err(stop),
-    }
-}
-
-// The interval between two ends.
-fn interval(alloc: Global, left: Term, right: Term, next: usize) -> Result<ReadTerm, Stop>
-    ensures ok { IfOk result (λ r. r ≡ record { term = t.Interval left right; shape = shape.Interval; next = next }) }
-    ensures err { IfErr result (λ failed. failed ≡ stop.Memory) }
-{
-    match (Boxed::new(alloc, left), Boxed::new(alloc, right)) {
-        (Ok(left), Ok(right)) => Ok(ReadTerm {
-            term: Term::Interval(left, right),
-            shape: Shape::Interval,
-            next,
-        }),
-        _ => Err(Stop::Memory),
     }
 }
 

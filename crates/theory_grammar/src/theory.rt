@@ -13,6 +13,7 @@ use crate::comparison::guard;
 use crate::element::elements;
 use crate::fault::{ParseCause, ParseFault, ParseStop, Stop};
 use crate::parse::{fault_at, stopped};
+use crate::places::give_starts;
 use crate::seen::Seen;
 use crate::theory_names::{is_bad_guard, is_unknown, relation_of, theory_name};
 use grammar::{Check, Failing, Mark, WordKind, bytes_at, is_mark, sooner, word_at};
@@ -34,27 +35,30 @@ pub struct ParsedTheory {
     pub fault: Option<ParseFault>,
 }
 
-// The parts of a theory atom, the first bad terms in its elements and in its guard, and the place of its
-// closing brace.
+/// The parts of a theory atom, and what its checks need. Places are those of words, from 0.
 #[derive(Drop)]
-struct Parts {
-    name: TheoryName,
-    elements: Items<TheoryElement>,
-    in_elements: Option<usize>,
-    brace: usize,
-    guard: Option<Guard>,
-    in_guard: Option<usize>,
-    next: usize,
+pub struct AtomParts {
+    pub name: TheoryName,
+    pub elements: Items<TheoryElement>,
+    /// The first bad term in the elements.
+    pub in_elements: Option<usize>,
+    /// The place of the closing brace.
+    pub brace: usize,
+    pub guard: Option<Guard>,
+    /// The first bad term in the guard.
+    pub in_guard: Option<usize>,
+    /// The place behind the atom.
+    pub next: usize,
 }
 
-// The theory atom at a place.
-fn atom_parts(
+/// The parts of the theory atom at a place.
+pub fn atom_parts(
     alloc: Global,
     text: &[u8],
     tokens: &[Token],
     at: usize,
     seen: &mut Seen,
-) -> Result<Parts, Stop>
+) -> Result<AtomParts, Stop>
     requires tokens { AreTokens text.now tokens.now }
     requires at { at ≤ length tokens.now }
     requires bad { seen.old.bad ≡ None }
@@ -77,7 +81,7 @@ fn behind_and(
     at: usize,
     seen: &mut Seen,
     kind: WordKind,
-) -> Result<Parts, Stop>
+) -> Result<AtomParts, Stop>
     requires tokens { AreTokens text.now tokens.now }
     requires at { at + 1 < length tokens.now }
     requires bad { seen.old.bad ≡ None }
@@ -98,7 +102,7 @@ fn behind_name(
     tokens: &[Token],
     at: usize,
     seen: &mut Seen,
-) -> Result<Parts, Stop>
+) -> Result<AtomParts, Stop>
     requires tokens { AreTokens text.now tokens.now }
     requires at { at + 1 < length tokens.now }
     requires bad { seen.old.bad ≡ None }
@@ -120,7 +124,7 @@ fn behind_name(
     let in_elements = replace(&mut seen.bad, None);
     match guard(alloc, text, tokens, brace + 1, seen) {
         Ok((guard, next)) => {
-            Ok(Parts {
+            Ok(AtomParts {
                 name,
                 elements: found,
                 in_elements,
@@ -134,8 +138,8 @@ fn behind_name(
     }
 }
 
-// The failed check so far, or another, if it fails, where that comes before it.
-fn sooner_if(so_far: Option<Failing>, fails: bool, check: Check, at: usize) -> Option<Failing>
+/// The failed check so far, or another, if it fails, where that comes before it.
+pub fn sooner_if(so_far: Option<Failing>, fails: bool, check: Check, at: usize) -> Option<Failing>
     ensures { result ≡ checks.first_of so_far (checks.fails_where fails check at) }
 {
     if fails {
@@ -145,8 +149,8 @@ fn sooner_if(so_far: Option<Failing>, fails: bool, check: Check, at: usize) -> O
     }
 }
 
-// The failed check so far, or a bad term, where that comes before it.
-fn sooner_term(so_far: Option<Failing>, bad: Option<usize>) -> Option<Failing>
+/// The failed check so far, or a bad term, where that comes before it.
+pub fn sooner_term(so_far: Option<Failing>, bad: Option<usize>) -> Option<Failing>
     ensures { result ≡ with_bad so_far bad }
 {
     match bad {
@@ -163,13 +167,14 @@ fn sooner_term(so_far: Option<Failing>, bad: Option<usize>) -> Option<Failing>
     }
 }
 
-// The check that fails first in a theory atom that begins at a place.
-fn first_failing(parts: &Parts, at: usize) -> Option<Failing>
+/// The failed check so far, or the one that fails first in a theory atom that begins at a place, where that comes
+/// before it.
+pub fn first_failing(so_far: Option<Failing>, parts: &AtomParts, at: usize) -> Option<Failing>
     requires at { at + 1 < parts.now.next }
     requires brace { parts.now.brace < parts.now.next }
-    ensures { result ≡ first_by parts.now at }
+    ensures { result ≡ first_by so_far parts.now at }
 {
-    let unknown = sooner_if(None, is_unknown(parts.name), Check::UnknownTheory, at + 1);
+    let unknown = sooner_if(so_far, is_unknown(parts.name), Check::UnknownTheory, at + 1);
     let inside = sooner_term(unknown, parts.in_elements);
     let guarded = sooner_if(
         inside,
@@ -227,7 +232,7 @@ pub fn parse_theory(
 {
     let mut seen = Seen {
         names: replace(names, Listed::new(alloc)),
-        places: replace(places, Listed::new(alloc)),
+        places: Listed::new(alloc),
         bad: None,
     };
     let result = atom_parts(alloc, text, tokens, from - 1, &mut seen);
@@ -237,10 +242,13 @@ pub fn parse_theory(
         bad: _,
     } = seen;
     *names = all_names;
-    *places = all_places;
+    match give_starts(places, all_places) {
+        Ok(()) => {}
+        Err(_) => return Err(ParseStop::Memory),
+    }
     match result {
         Ok(read) => {
-            let fault = first_fault(text, tokens, first_failing(&read, from - 1));
+            let fault = first_fault(text, tokens, first_failing(None, &read, from - 1));
             Ok(ParsedTheory {
                 next: read.next + 1,
                 fault,

@@ -8,8 +8,8 @@ ghost use Rattle.grammar.specs.TheoryReading as spec;
 use grammar::{Mark, WordKind, word_at};
 use lexer::Token;
 
-// Whether `not` comes next.
-pub(crate) fn is_not(text: &[u8], tokens: &[Token], at: usize) -> bool
+/// Whether `not` comes next.
+pub fn is_not(text: &[u8], tokens: &[Token], at: usize) -> bool
     requires { AreTokens text.now tokens.now }
     ensures { result ≡ starts_next spec.is_negation (words_at text.now tokens.now at) }
 {
@@ -28,8 +28,8 @@ fn denies(kind: WordKind) -> bool
     }
 }
 
-// Whether a term begins with what comes next.
-pub(crate) fn begins_term(text: &[u8], tokens: &[Token], at: usize) -> bool
+/// Whether a term begins with what comes next.
+pub fn begins_term(text: &[u8], tokens: &[Token], at: usize) -> bool
     requires { AreTokens text.now tokens.now }
     ensures { result ≡ starts_next spec.begins_term (words_at text.now tokens.now at) }
 {
@@ -62,8 +62,8 @@ fn opens_by(mark: Mark) -> bool
     }
 }
 
-// Whether a condition begins with what comes next.
-pub(crate) fn begins(text: &[u8], tokens: &[Token], at: usize) -> bool
+/// Whether a condition begins with what comes next.
+pub fn begins(text: &[u8], tokens: &[Token], at: usize) -> bool
     requires { AreTokens text.now tokens.now }
     ensures { result ≡ starts_next spec.begins (words_at text.now tokens.now at) }
 {

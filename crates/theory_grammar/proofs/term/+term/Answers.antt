@@ -1,4 +1,4 @@
-use Rattle.std.proofs.Common.{suc, ◌+◌, ◌-◌, ◌∙◌, [], ◌∷◌, ◌++◌, sym, ap, subst, arith}
+use Rattle.std.proofs.Common.{suc, true, ◌+◌, ◌-◌, ◌∙◌, [], ◌∷◌, ◌++◌, sym, ap, subst, arith}
 use Rattle.syntax_tree.specs.declared.term.Term.TheVariants as tree
 use Rattle.syntax_tree.specs.declared.term.Op.TheVariants.{Plus, Times}
 use Rattle.grammar.specs.declared.mark.Mark.TheVariants as m
@@ -9,7 +9,7 @@ use Rattle.grammar.specs.Term.{sum_goes_on}
 use Rattle.grammar.proofs.TermLaws.{unary_on, sum_law}
 use Rattle.theory_grammar.specs.declared.fault.Stop.TheVariants as stop
 use Rattle.grammar.specs.Reading.{unary_at, product_at, sum_at, term_at, args_at}
-use Rattle.theory_grammar.specs.State.{Reads, Fails, TermRead, argued, start_of, unary_class, product_class, sum_class, term_class, rest_class}
+use Rattle.theory_grammar.specs.State.{Reads, Fails, TermRead, argued, noted, unary_class, product_class, sum_class, term_class, rest_class}
 use Rattle.theory_grammar.proofs.Classes.{part_read, argument_read}
 use Rattle.theory_grammar.proofs.TermReads.{alone_read, interval_read, left_fails, right_fails, fails_along}
 use Rattle.theory_grammar.proofs.OperandReads.{negated_read, negated_fails, applied_read, applied_fails, applied_open, unit_read, group_read, bracket_fails, group_open, tuple_read, tuple_fails, rest_none, rest_some, plain_read, deep_name, deep_minus, deep_open, none_at_end, no_mark, no_word}
@@ -137,7 +137,7 @@ bracket-returns-in-Ok-behind_comma t c =
     (term_read_of (unary_class (suc (c.args.depth - 1))) c.args.text.now c.args.tokens.now c.args.at c.args.seen.now c.behind_comma.new.seen c.joined.result _ c.joined.ensures.ok c.joined.ensures.err
     (tuple_read (c.args.depth - 1) c.args.text.now c.args.tokens.now c.args.at c.args.seen.now c.argue.new.self c.behind_comma.new.seen c.in-Ok.first.term c.in-Ok.first.next c.in-Ok-behind_comma.more c.in-Ok-behind_comma.after c.requires.word (sym c.if-is_mark.ensures.is)
     (argument_read (term_class (unary_class (c.args.depth - 1))) c.args.text.now c.args.tokens.now (c.args.at + 1) c.args.seen.now c.term.new.seen c.argue.new.self c.in-Ok.first.term c.in-Ok.first.shape c.in-Ok.first.next c.in-Ok.ensures
-    (c.in-Ok-argue.ensures ∙ ap (λ n. record c.term.new.seen { places = argued c.term.new.seen.places c.in-Ok.first.shape n (start_of c.args.tokens.now (c.args.at + 1)) }) c.len-before.ensures)) (sym c.if-is_mark-2.ensures.is) (sym c.if-not-is_mark.ensures.is) c.in-Ok-behind_comma.ensures))
+    (c.in-Ok-argue.ensures ∙ ap (λ n. record c.term.new.seen { places = argued c.term.new.seen.places c.in-Ok.first.shape n (noted c.args.tokens.now (c.args.at + 1) true) }) c.len-before.ensures)) (sym c.if-is_mark-2.ensures.is) (sym c.if-not-is_mark.ensures.is) c.in-Ok-behind_comma.ensures))
 
 pub bracket-returns-in-Err-behind_comma : goal.bracket-returns-in-Err-behind_comma
 bracket-returns-in-Err-behind_comma t c =

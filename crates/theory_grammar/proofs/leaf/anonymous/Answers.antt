@@ -1,7 +1,7 @@
 use Rattle.std.proofs.Common.{sym, subst}
 use Rattle.theory_grammar.specs.State.{Reads, unary_class}
 use Rattle.theory_grammar.proofs.Leaves.{anonymous_read}
-use Rattle.theory_grammar.proofs.term.anonymous.Goals as goal
+use Rattle.theory_grammar.proofs.leaf.anonymous.Goals as goal
 
 pub returns-in-Ok : goal.returns-in-Ok
 returns-in-Ok c =

@@ -6,7 +6,7 @@ use Rattle.grammar.specs.Spelled.{IsSpelled}
 use Rattle.grammar.proofs.SpelledLemmas.{digits_there}
 use Rattle.theory_grammar.specs.State.{Reads, unary_class}
 use Rattle.theory_grammar.proofs.Leaves.{number_read}
-use Rattle.theory_grammar.proofs.term.number.Goals as goal
+use Rattle.theory_grammar.proofs.leaf.number.Goals as goal
 
 pub number_of-requires : goal.number_of-requires
 number_of-requires c =

@@ -2,7 +2,7 @@ use Rattle.std.proofs.Common.{◌∙◌, ap, sym, subst}
 use Rattle.grammar.specs.Word.{string_content}
 use Rattle.theory_grammar.specs.State.{Reads, unary_class}
 use Rattle.theory_grammar.proofs.Leaves.{string_read}
-use Rattle.theory_grammar.proofs.term.string.Goals as goal
+use Rattle.theory_grammar.proofs.leaf.string.Goals as goal
 
 pub returns-in-Ok : goal.returns-in-Ok
 returns-in-Ok c =
