@@ -1,0 +1,6 @@
+pub mod Replacement
+pub mod Constants
+pub mod ConstantTable
+pub mod StatementState
+pub mod Parsed
+pub mod TextState
