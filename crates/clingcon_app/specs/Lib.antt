@@ -1,4 +1,5 @@
 pub mod Words
+pub mod Texts
 pub mod Program
 pub mod Printed
 pub mod Outcome

@@ -1,46 +1,81 @@
 -- What a status of the top call says.
-use Rattle.std.specs.Prelude.{◌≡◌, ◌⊎◌, ℕ, take, List, Some, IfSome, String}
+use Rattle.std.specs.Prelude.{◌≡◌, ◌⊎◌, ℕ, true, false, take, List, ◌++◌, String}
 use Rattle.std.specs.Global.{Global}
 use Rattle.std.specs.declared.option.Option.{Option}
 use Rattle.std.specs.Io.KnownBytes.{Appends}
-use Rattle.clingcon_app.specs.Words.{input_of}
-use Rattle.clingcon_app.specs.Printed.{PrintsText, IsOtherText, not_built}
+use Rattle.syntax_tree.specs.declared.statement.Program.{Program}
+use Rattle.first_form.specs.Form.{SymbolRule, States}
+use Rattle.clingcon_app.specs.Words.{are_files, names_of}
+use Rattle.clingcon_app.specs.Texts.{AreTexts, IsTooLarge, AreRefused, too_large_line}
+use Rattle.clingcon_app.specs.Printed.{PrintsAnswer, PrintTexts, AreOther, not_built, satisfiable}
+use Rattle.clingcon_app.specs.declared.answering.Verdict.{Verdict}
+use Rattle.clingcon_app.specs.declared.answering.Verdict.TheVariants as verdict
+
+-- the statuses of refusals
+abbrev pub IsRefusing : ℕ → Type 0
+IsRefusing status = (status ≡ 65) ⊎ (status ≡ 70) ⊎ (status ≡ 71)
+
+-- the statuses of a run that printed all that it had to print
+abbrev pub IsEnding : ℕ → Type 0
+IsEnding status = (status ≡ 10) ⊎ IsRefusing status
 
 -- the statuses that the top call ends with
 abbrev pub IsStatus : ℕ → Type 0
-IsStatus status = (status ≡ 10) ⊎ (status ≡ 33) ⊎ (status ≡ 66) ⊎ (status ≡ 67) ⊎ (status ≡ 71)
+IsStatus status = IsEnding status ⊎ (status ≡ 33) ⊎ (status ≡ 66) ⊎ (status ≡ 67)
+
+-- what is printed for texts under these names: the one answer of their program, the line of their first refusal, or that their
+-- program is not of the first form
+abbrev pub Answers : List (List ℕ) → List (List ℕ) → List ℕ → Type 0
+Answers names texts printed = PrintTexts texts printed
+
+abbrev pub IsUnbuilt : List (List ℕ) → List (List ℕ) → List ℕ → Type 0
+IsUnbuilt names texts printed = AreOther texts × (printed ≡ not_built)
+
+-- the same for what the code gives
+abbrev pub IsVerdict : List (List ℕ) → List (List ℕ) → Verdict → Type 0
+IsVerdict names texts (verdict.Answer block) = PrintTexts texts (block ++ satisfiable)
+IsVerdict names texts (verdict.Refused line) = AreRefused names texts line
+IsVerdict names texts verdict.NotBuilt = AreOther texts
+
+-- what is printed for a program whose constants are replaced: its one answer where it has the first form, or that it has not
+abbrev pub IsJudged : Program → Verdict → Type 0
+IsJudged program (verdict.Answer block) = (stated : List SymbolRule) × States program.statements stated × PrintsAnswer stated (block ++ satisfiable)
+IsJudged program (verdict.Refused line) = ⊥
+IsJudged program verdict.NotBuilt = (stated : List SymbolRule) → States program.statements stated → ⊥
 
 module _ {F : Type 0} (text_of : F → List ℕ → Option (List ℕ)) where
-  -- the words name an input, and where its text is told, its one answer is printed so
-  pub record IsAnswer (files : F) (words : List (String Global)) (printed : List ℕ) : Type 0 where
+  -- the words name inputs whose texts have permitted sizes, and this is so of them
+  pub record IsOf (Says : List (List ℕ) → List (List ℕ) → List ℕ → Type 0) (files : F) (words : List (String Global)) (printed : List ℕ) : Type 0 where
+    pub named : are_files words ≡ true
+    pub texts : List (List ℕ)
+    pub are : AreTexts text_of files (names_of words) texts
+    pub says : Says (names_of words) texts printed
+
+  -- the words name inputs, and the first text that is too large is refused
+  pub record IsOversized (files : F) (words : List (String Global)) (printed : List ℕ) : Type 0 where
+    pub named : are_files words ≡ true
     pub name : List ℕ
-    pub named : input_of words ≡ Some name
-    pub right : IfSome (text_of files name) (λ text. PrintsText text printed)
+    pub large : IsTooLarge text_of files (names_of words) name
+    pub line : printed ≡ too_large_line name
 
-  -- the words name no input, or the text under their name, where it is told, is not of the first form
-  abbrev pub IsRefused : F → List (String Global) → Type 0
-  IsRefused files words = (name : List ℕ) → input_of words ≡ Some name → IfSome (text_of files name) IsOtherText
-
-  -- what a run prints: its answer, or the line of a refusal whose cause stands
-  abbrev pub IsPrinted : F → List (String Global) → List ℕ → Type 0
-  IsPrinted files words printed =
-      IsAnswer files words printed ⊎ (IsRefused files words × (printed ≡ not_built))
+  -- what a run that ends with this status prints
+  abbrev pub IsPrinted : ℕ → F → List (String Global) → List ℕ → Type 0
+  IsPrinted status files words printed =
+      ((status ≡ 10) × IsOf Answers files words printed)
+      ⊎ ((status ≡ 65) × IsOf AreRefused files words printed)
+      ⊎ ((status ≡ 70) × IsOversized files words printed)
+      ⊎ ((status ≡ 71) × (IsOf IsUnbuilt files words printed ⊎ ((are_files words ≡ false) × (printed ≡ not_built))))
 
 module _ {F O : Type 0} (text_of : F → List ℕ → Option (List ℕ)) (written : O → Option (List ℕ)) where
-  -- the output grew by the text of the one answer
-  pub record IsAnswered (files : F) (words : List (String Global)) (before after : O) : Type 0 where
+  -- the cause of the status stands, and the output grew by what is printed then
+  pub record IsEnded (status : ℕ) (files : F) (words : List (String Global)) (before after : O) : Type 0 where
     pub printed : List ℕ
-    pub right : IsAnswer text_of files words printed
+    pub right : IsPrinted text_of status files words printed
     pub appended : Appends (written before) (written after) printed
-
-  -- the cause of a refusal stands, and the output grew by its line
-  pub record IsNotBuilt (files : F) (words : List (String Global)) (before after : O) : Type 0 where
-    pub cause : IsRefused text_of files words
-    pub appended : Appends (written before) (written after) not_built
 
   -- the output grew by nothing, or by a front of what is to be printed
   abbrev pub IsCutOff : F → List (String Global) → O → O → Type 0
   IsCutOff files words before after =
       (written after ≡ written before)
-      ⊎ ((printed : List ℕ) × (count : ℕ) × IsPrinted text_of files words printed
+      ⊎ ((status : ℕ) × (printed : List ℕ) × (count : ℕ) × IsPrinted text_of status files words printed
       × Appends (written before) (written after) (take count printed))

@@ -1,20 +1,13 @@
--- What is printed for a text.
-use Rattle.std.specs.Prelude.{◌≡◌, ℕ, ◌≤◌, ◌^◌, length, List, [], ◌∷◌, codes}
-use Rattle.lexer.specs.declared.token.Token.{Token}
-use Rattle.lexer.specs.Parts.{IsTokenisation}
-use Rattle.first_form.specs.Form.{SymbolRule, Derives}
+-- What is printed for texts.
+use Rattle.std.specs.Prelude.{◌≡◌, ℕ, List, [], ◌∷◌, codes}
+use Rattle.syntax_tree.specs.declared.statement.Program.{Program}
+use Rattle.first_form.specs.Form.{SymbolRule, States}
 use Rattle.ground_model.specs.declared.answer.Answer.{Answer}
 use Rattle.ground_model.specs.declared.program.GroundProgram.{GroundProgram}
 use Rattle.ground_model.specs.Answers.{IsOnlyAnswer}
 use Rattle.ground_model.specs.Printed.{ending_line, run_text, Satisfiable}
 use Rattle.clingcon_app.specs.Program.{IsProgramOf}
-
--- the text is of the first form, has at most 16 MiB, and its statements are these
-pub record HasStatements (text : List ℕ) (stated : List SymbolRule) : Type 0 where
-  pub short : length text ≤ 2 ^ 24
-  pub tokens : List Token
-  pub lexed : IsTokenisation text tokens
-  pub derived : Derives text tokens stated
+use Rattle.clingcon_app.specs.Texts.{IsProgram}
 
 -- the statements' program has one constraint stable model, and the run that prints it is printed
 pub record PrintsAnswer (stated : List SymbolRule) (printed : List ℕ) : Type 0 where
@@ -24,15 +17,19 @@ pub record PrintsAnswer (stated : List SymbolRule) (printed : List ℕ) : Type 0
   pub only : IsOnlyAnswer program answer
   pub text : printed ≡ run_text program (answer ∷ []) Satisfiable
 
--- the text is of the first form, and the one answer of its program is printed
-pub record PrintsText (text printed : List ℕ) : Type 0 where
+-- the texts have a program, all of it is of the first form, and its one answer is printed
+pub record PrintTexts (texts : List (List ℕ)) (printed : List ℕ) : Type 0 where
+  pub program : Program
+  pub has : IsProgram texts program
   pub stated : List SymbolRule
-  pub has : HasStatements text stated
+  pub states : States program.statements stated
   pub prints : PrintsAnswer stated printed
 
--- the text is not of the first form
-abbrev pub IsOtherText : List ℕ → Type 0
-IsOtherText text = (stated : List SymbolRule) → HasStatements text stated → ⊥
+-- the texts have a program that is not of the first form
+pub record AreOther (texts : List (List ℕ)) : Type 0 where
+  pub program : Program
+  pub has : IsProgram texts program
+  pub other : (stated : List SymbolRule) → States program.statements stated → ⊥
 
 -- the ending's line
 abbrev pub satisfiable : List ℕ

@@ -1,7 +1,7 @@
 -- The words of the command.
-use Rattle.std.specs.Prelude.{ℕ, Bool, true, false, not, ◌==◌, List, [], ◌∷◌, None, Some, String, if◌then◌else◌, codes}
+use Rattle.std.specs.Prelude.{ℕ, Bool, true, false, not, ◌&&◌, ◌==◌, nat_lt, List, [], ◌∷◌, map, length, String, codes}
 use Rattle.std.specs.Global.{Global}
-use Rattle.std.specs.declared.option.Option.{Option}
+use Rattle.std.specs.List.{list_all}
 use Rattle.std.specs.String.{string_bytes}
 
 -- the name of an input: a hyphen, or a word that is not empty and does not begin with a hyphen
@@ -10,8 +10,11 @@ is_file [] = false
 is_file (byte ∷ []) = true
 is_file (byte ∷ next ∷ rest) = not (byte == 45)
 
--- the name of the one input, where the words are none or one name
-abbrev pub input_of : List (String Global) → Option (List ℕ)
-input_of [] = Some (codes "-")
-input_of (word ∷ []) = (if is_file (string_bytes word) then Some (string_bytes word) else None)
-input_of (word ∷ next ∷ words) = None
+-- each word is the name of an input, and there are at most 65,536
+abbrev pub are_files : List (String Global) → Bool
+are_files words = nat_lt (length words) 65537 && list_all (λ word. is_file (string_bytes word)) words
+
+-- the names of the inputs: the words, or `-` where there is none
+abbrev pub names_of : List (String Global) → List (List ℕ)
+names_of [] = codes "-" ∷ []
+names_of (word ∷ words) = map string_bytes (word ∷ words)

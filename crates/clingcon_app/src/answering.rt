@@ -1,66 +1,59 @@
-// From the text of a program to what is printed for it.
-ghost use Rattle.std.specs.Prelude.{◌≡◌, ◌≤◌, ◌^◌, ◌++◌, length, IfOk};
+// From the texts of a program to what is printed for them.
+ghost use Rattle.std.specs.Prelude.{◌≡◌, ◌<◌, ◌^◌, ◌++◌, length, IfOk};
 ghost use Rattle.symbols.specs.Table.{IsOnce};
 ghost use Rattle.first_form.specs.Form.{HaveKnown, rules_in};
-ghost use Rattle.clingcon_app.specs.Printed.{HasStatements, PrintsAnswer, PrintsText, IsOtherText, satisfiable};
+ghost use Rattle.clingcon_app.specs.Words.{names_of};
+ghost use Rattle.clingcon_app.specs.Outcome.{IsJudged, IsVerdict};
+ghost use Rattle.clingcon_app.specs.Printed.{PrintsAnswer, satisfiable};
 
 use crate::grounding::program_of;
+use crate::parsing::{ProgramStop, program_of_texts};
 use first_form::{DefiniteStatement, FormStop, read_statements};
 use ground_model::{definite_answer, write_answer};
-use lexer::{LexStop, tokens};
 use std::alloc::Global;
 use symbols::{Listed, Memory, SymbolTable};
+use syntax_tree::Program;
 
-/// Why nothing is printed for a text.
-#[derive(Clone, Copy, Debug, PartialEq, Eq)]
-pub(crate) enum AnswerStop {
-    /// The text is not of the first form.
-    OtherForm,
-    /// Memory could not be had.
-    Memory,
+/// What is printed for texts.
+#[derive(Drop)]
+pub(crate) enum Verdict {
+    /// The block of the one answer of their program.
+    Answer(Listed<u8>),
+    /// The line of the first refusal.
+    Refused(Listed<u8>),
+    /// Their program is not of the first form.
+    NotBuilt,
 }
 
-/// The block of the one answer of a text of the first form.
-pub(crate) fn answer_block(alloc: Global, text: &[u8]) -> Result<Listed<u8>, AnswerStop>
-    requires { length text.now ≤ 2 ^ 24 }
-    ensures printed { IfOk result (λ block. PrintsText text.now (block ++ satisfiable)) }
-    ensures other { result ≡ Err AnswerStop.OtherForm → IsOtherText text.now }
+/// What is printed for the texts of the inputs that the words name.
+pub(crate) fn verdict_of(
+    alloc: Global,
+    words: &[String],
+    texts: &[Listed<u8>],
+) -> Result<Verdict, Memory>
+    requires named { length texts.now ≡ length (names_of words.now) }
+    requires few { length texts.now < 2 ^ 32 }
+    ensures { IfOk result (IsVerdict (names_of words.now) texts.now) }
 {
-    let mut symbols = match SymbolTable::new(alloc) {
-        Ok(symbols) => symbols,
-        Err(Memory) => return Err(AnswerStop::Memory),
-    };
-    let statements = match statements_of(alloc, text, &mut symbols) {
-        Ok(statements) => statements,
-        Err(stop) => return Err(stop),
-    };
-    match block_of(alloc, symbols, statements.items()) {
-        Ok(block) => Ok(block),
-        Err(Memory) => Err(AnswerStop::Memory),
+    match program_of_texts(alloc, words, texts) {
+        Ok(program) => judged(alloc, &program),
+        Err(ProgramStop::Refused(line)) => Ok(Verdict::Refused(line)),
+        Err(ProgramStop::Memory) => Err(Memory),
     }
 }
 
-// The statements of a text of the first form; its tokens are gone when they are answered.
-fn statements_of(
-    alloc: Global,
-    text: &[u8],
-    symbols: &mut SymbolTable,
-) -> Result<Listed<DefiniteStatement>, AnswerStop>
-    requires { length text.now ≤ 2 ^ 24 }
-    ensures read { IfOk result (λ statements. HasStatements text.now (rules_in symbols.new statements)) }
-    ensures known { IfOk result (HaveKnown symbols.new) }
-    ensures once { IsOnce symbols.old → IsOnce symbols.new }
-    ensures other { result ≡ Err AnswerStop.OtherForm → IsOtherText text.now }
+// What is printed for a program whose constants are replaced.
+fn judged(alloc: Global, program: &Program) -> Result<Verdict, Memory>
+    ensures { IfOk result (IsJudged program.now) }
 {
-    let tokens = match tokens(alloc, text) {
-        Ok(tokens) => tokens,
-        Err(LexStop::Fault(_)) => return Err(AnswerStop::OtherForm),
-        Err(LexStop::Memory) => return Err(AnswerStop::Memory),
-    };
-    match read_statements(alloc, text, tokens.items(), symbols) {
-        Ok(statements) => Ok(statements),
-        Err(FormStop::OtherForm) => Err(AnswerStop::OtherForm),
-        Err(FormStop::Memory) => Err(AnswerStop::Memory),
+    let mut symbols = SymbolTable::new(alloc)?;
+    match read_statements(alloc, program.statements.items(), &mut symbols) {
+        Ok(statements) => {
+            let block = block_of(alloc, symbols, statements.items())?;
+            Ok(Verdict::Answer(block))
+        }
+        Err(FormStop::OtherForm) => Ok(Verdict::NotBuilt),
+        Err(FormStop::Memory) => Err(Memory),
     }
 }
 

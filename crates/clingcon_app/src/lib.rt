@@ -1,16 +1,20 @@
-//! The top call: reads the text of one input, solves its program and prints what was found.
+//! The top call: reads the texts of the inputs, solves their program and prints what was found.
 //!
-//! `run` promises, for every list of words and every text, which status it ends with and what it then has
-//! printed: at status 10 the one constraint stable model of the text's program. Texts of facts and definite
-//! rules are solved so far; any other is refused as not built. `answering` goes from a text to what is
-//! printed, with no input or output; `running` is the thin shell over files and sinks. Stands on
-//! `outside_io` for the outside, `lexer` and `first_form` for the text, `ground_model` for the meaning.
+//! `run` promises, for every list of words and all texts, which status it ends with and what it then has
+//! printed: at status 10 the one constraint stable model of the texts' program, at 65 the first refusal of a
+//! text with its place. Programs of facts and definite rules are solved so far; any other is refused as not
+//! built. `texts` reads the inputs, `parsing` gives their program, `answering` what is printed for it, and
+//! `running` is the thin shell over files and sinks. Stands on `outside_io` for the outside, `asp_parser` and
+//! `first_form` for the texts, `ground_model` for the meaning.
 #![tactic(auto)]
 
 mod answering;
 mod grounding;
 mod numbering;
+mod parsing;
+mod refusing;
 mod running;
+mod texts;
 mod words;
 
 pub use running::{Report, run};

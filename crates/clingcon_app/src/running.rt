@@ -3,22 +3,27 @@ ghost use Rattle.std.specs.Prelude.{◌≡◌, ◌⊎◌, ◌↔◌, ◌≤◌, 
 ghost use Rattle.std.specs.Io.KnownBytes.{Appends};
 ghost use Rattle.outside_io.specs.Faults.{RisesWhere};
 ghost use Rattle.outside_io.specs.Told.{FlushesAll};
-ghost use Rattle.clingcon_app.specs.Outcome.{IsAnswered, IsCutOff, IsNotBuilt, IsStatus};
-ghost use Rattle.clingcon_app.specs.Printed.{not_built, satisfiable};
+ghost use Rattle.clingcon_app.specs.Outcome.{IsCutOff, IsEnded, IsEnding, IsRefusing, IsStatus};
+ghost use Rattle.clingcon_app.specs.Printed.{satisfiable};
+ghost use Rattle.clingcon_app.specs.Texts as texts;
 
-use crate::answering::{AnswerStop, answer_block};
-use crate::words::input_name;
-use outside_io::{Files, OutFault, ReadStop, Sink, read_text, write_all};
+use crate::answering::{Verdict, verdict_of};
+use crate::refusing::too_large_line;
+use crate::texts::{TextsStop, read_texts};
+use crate::words::{are_files, name_at};
+use outside_io::{Files, OutFault, Sink, write_all};
 use std::alloc::Global;
+use symbols::Memory;
 
-// The most bytes of a text: 16 MiB.
-const MOST_BYTES: usize = 16_777_216;
+// The line of what is not built.
+const NOT_BUILT: &[u8] = b"error: not built\n";
 
 /// How a run ended.
 #[derive(Clone, Copy, Debug, PartialEq, Eq)]
 pub struct Report {
-    /// 10: the answer was printed. 33: memory could not be had. 66: an input failed. 67: an output failed.
-    /// 71: the words or the text have a part that is not built yet.
+    /// 10: the answer was printed. 33: memory could not be had. 65: a text is not in the grammar, a check of it
+    /// fails, or a constant may not be. 66: an input failed. 67: an output failed. 70: a text is too large, or all
+    /// are. 71: the words or the texts have a part that is not built yet.
     pub status: u8,
     /// How many answers were printed whole.
     pub answers: u64,
@@ -28,11 +33,12 @@ pub struct Report {
     pub best: Option<i128>,
 }
 
-/// Reads the text of the one input that the words name, `-` where there is no word, and prints the one
-/// constraint stable model of its program.
+/// Reads the texts of the inputs that the words name, `-` where there is no word, and prints the one constraint
+/// stable model of their program, or the first refusal.
 ///
-/// The text is of the first form: facts and definite rules with no variable, at most 16 MiB and 65,536
-/// statements. `proof` takes a derivation in time; it is not used yet.
+/// There are at most 65,536 inputs; a text has at most 16 MiB, and all have at most 64 MiB. A program is solved if
+/// it is of the first form: at most 65,536 facts and definite rules with no variable. `proof` takes a derivation in
+/// time; it is not used yet.
 pub fn run<F: Files, O: Sink, D: Sink>(
     alloc: Global,
     words: &[String],
@@ -43,37 +49,37 @@ pub fn run<F: Files, O: Sink, D: Sink>(
     ensures statuses { IsStatus result.status }
 
     // Each status has its cause; want of memory, 33, is the one free answer.
-    ensures answered { result.status ≡ 10 → IsAnswered F.text O.written files.old words.now out.old out.new }
-    ensures not_built { result.status ≡ 71 → IsNotBuilt F.text O.written files.old words.now out.old out.new }
+    ensures ended { IsEnding result.status → IsEnded F.text O.written result.status files.old words.now out.old out.new }
     ensures read { RisesWhere (result.status ≡ 66) (F.faults files.old) (F.faults files.new) }
     ensures wrote { RisesWhere (result.status ≡ 67) (O.faults out.old) (O.faults out.new) }
 
     // What stands on the output: all of it flushed, or nothing, or a front of what was to be printed.
-    ensures flushed { (result.status ≡ 10) ⊎ (result.status ≡ 71) → FlushesAll (O.written out.new) (O.flushed out.new) }
+    ensures flushed { IsEnding result.status → FlushesAll (O.written out.new) (O.flushed out.new) }
     ensures nothing { result.status ≡ 66 → O.written out.new ≡ O.written out.old }
     ensures front { (result.status ≡ 33) ⊎ (result.status ≡ 67) → IsCutOff F.text O.written files.old words.now out.old out.new }
     ensures opened { O.opened out.new ≡ O.opened out.old }
     ensures unused { proof.new ≡ proof.old }
 
     ensures answers { result.status ≡ 10 → result.answers ≡ 1 }
-    ensures no_answer { (result.status ≡ 66) ⊎ (result.status ≡ 71) → result.answers ≡ 0 }
+    ensures no_answer { (result.status ≡ 65) ⊎ (result.status ≡ 66) ⊎ (result.status ≡ 70) ⊎ (result.status ≡ 71) → result.answers ≡ 0 }
     ensures conflicts { result.conflicts ≡ 0 }
     ensures best { result.best ≡ None }
 {
     let _ = proof;
-    let Some(name) = input_name(words) else {
-        return refuse(out);
+    if !are_files(words) {
+        return refuse(out, 71, NOT_BUILT);
+    }
+    let texts = match read_texts(alloc, words, files) {
+        Ok(texts) => texts,
+        Err(TextsStop::Failed) => return ended(66, 0),
+        Err(TextsStop::Memory) => return ended(33, 0),
+        Err(TextsStop::TooLarge(at)) => return refuse_size(alloc, out, name_at(words, at)),
     };
-    let text = match read_text(alloc, files, name, MOST_BYTES) {
-        Ok(text) => text,
-        Err(ReadStop::Failed) => return ended(66, 0),
-        Err(ReadStop::Memory) => return ended(33, 0),
-        Err(ReadStop::TooLarge) => return refuse(out),
-    };
-    match answer_block(alloc, text.items()) {
-        Ok(block) => print_answer(out, block.items()),
-        Err(AnswerStop::OtherForm) => refuse(out),
-        Err(AnswerStop::Memory) => ended(33, 0),
+    match verdict_of(alloc, words, texts.items()) {
+        Ok(Verdict::Answer(block)) => print_answer(out, block.items()),
+        Ok(Verdict::Refused(line)) => refuse(out, 65, line.items()),
+        Ok(Verdict::NotBuilt) => refuse(out, 71, NOT_BUILT),
+        Err(Memory) => ended(33, 0),
     }
 }
 
@@ -120,21 +126,40 @@ fn write_last<O: Sink>(out: &mut O, piece: &[u8]) -> Result<(), OutFault>
     out.flush()
 }
 
-// Prints the line of a refusal of what is not built.
-fn refuse<O: Sink>(out: &mut O) -> Report
-    ensures statuses { (result.status ≡ 71) ⊎ (result.status ≡ 33) ⊎ (result.status ≡ 67) }
-    ensures whole { result.status ≡ 71 → Appends (O.written out.old) (O.written out.new) not_built }
-    ensures flushed { result.status ≡ 71 → FlushesAll (O.written out.new) (O.flushed out.new) }
-    ensures front { (result.status ≡ 33) ⊎ (result.status ≡ 67) → (count : ℕ) × Appends (O.written out.old) (O.written out.new) (take count not_built) }
+// Prints the line of a refusal, and ends with its status.
+fn refuse<O: Sink>(out: &mut O, status: u8, line: &[u8]) -> Report
+    requires { IsRefusing status }
+    ensures statuses { (result.status ≡ status) ⊎ (result.status ≡ 33) ⊎ (result.status ≡ 67) }
+    ensures whole { result.status ≡ status → Appends (O.written out.old) (O.written out.new) line.now }
+    ensures flushed { result.status ≡ status → FlushesAll (O.written out.new) (O.flushed out.new) }
+    ensures front { (result.status ≡ 33) ⊎ (result.status ≡ 67) → (count : ℕ) × Appends (O.written out.old) (O.written out.new) (take count line.now) }
     ensures names { O.opened out.new ≡ O.opened out.old }
     ensures answers { result.answers ≡ 0 }
     ensures conflicts { result.conflicts ≡ 0 }
     ensures best { result.best ≡ None }
     ensures cause { RisesWhere (result.status ≡ 67) (O.faults out.old) (O.faults out.new) }
 {
-    match write_last(out, b"error: not built\n") {
-        Ok(()) => ended(71, 0),
+    match write_last(out, line) {
+        Ok(()) => ended(status, 0),
         Err(fault) => stopped(fault, 0),
+    }
+}
+
+// Prints the refusal of a text that is too large.
+fn refuse_size<O: Sink>(alloc: Global, out: &mut O, name: &str) -> Report
+    ensures statuses { (result.status ≡ 70) ⊎ (result.status ≡ 33) ⊎ (result.status ≡ 67) }
+    ensures whole { result.status ≡ 70 → Appends (O.written out.old) (O.written out.new) (texts.too_large_line name.now) }
+    ensures flushed { result.status ≡ 70 → FlushesAll (O.written out.new) (O.flushed out.new) }
+    ensures front { (result.status ≡ 33) ⊎ (result.status ≡ 67) → (O.written out.new ≡ O.written out.old) ⊎ ((count : ℕ) × Appends (O.written out.old) (O.written out.new) (take count (texts.too_large_line name.now))) }
+    ensures names { O.opened out.new ≡ O.opened out.old }
+    ensures answers { result.answers ≡ 0 }
+    ensures conflicts { result.conflicts ≡ 0 }
+    ensures best { result.best ≡ None }
+    ensures cause { RisesWhere (result.status ≡ 67) (O.faults out.old) (O.faults out.new) }
+{
+    match too_large_line(alloc, name) {
+        Ok(line) => refuse(out, 70, line.items()),
+        Err(Memory) => ended(33, 0),
     }
 }
 

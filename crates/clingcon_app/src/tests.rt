@@ -69,15 +69,53 @@ fn prints_the_one_answer(rt: HostRuntime) -> Result<(), Fail> {
 fn refuses_what_is_not_built(rt: HostRuntime) -> Result<(), Fail> {
     for text in [
         "{a}.",
-        "a",
         "a :- not b.",
         "p(X).",
         "p(1..2).",
-        "p(01).",
         ":- a.",
-        "p().",
+        "a :- .",
+        "#show.",
+        "#const n=2. p(n).",
+        "&sum{x} <= 3.",
     ] {
         assert_prints(&rt, rt.alloc(), text, 71, "error: not built\n")?;
+    }
+    Ok(())
+}
+
+#[test]
+fn refuses_each_fault_at_its_place(rt: HostRuntime) -> Result<(), Fail> {
+    let rows = [
+        ("a.\n\"b.", "-:2:1: error: string is not closed\n"),
+        ("s(\"open", "-:1:3: error: string is not closed\n"),
+        ("a. %* b.", "-:1:4: error: comment is not closed\n"),
+        ("p(01).", "-:1:4: error: unexpected character\n"),
+        ("p(3000000000).", "-:1:3: error: number above 2147483647\n"),
+        ("a", "-:1:2: error: syntax error\n"),
+        ("p().", "-:1:3: error: syntax error\n"),
+        ("a.\n b :- c d.", "-:2:9: error: syntax error\n"),
+        ("&sim{x}<=1.", "-:1:2: error: unknown theory atom\n"),
+        (
+            "a :- &dom{1..2}=x.",
+            "-:1:6: error: theory atom not allowed here\n",
+        ),
+        (
+            "&show{x} :- a.",
+            "-:1:10: error: theory atom not allowed here\n",
+        ),
+        ("&sum{x}.", "-:1:8: error: guard not allowed here\n"),
+        (
+            "a.\nb :- 1+(1..2) = 3.",
+            "-:2:8: error: term not allowed here\n",
+        ),
+        ("#const n=1/0.", "-:1:8: error: constant not allowed\n"),
+        (
+            "#const n=1.\n#const n=2.",
+            "-:2:8: error: constant not allowed\n",
+        ),
+    ];
+    for (text, printed) in rows {
+        assert_prints(&rt, rt.alloc(), text, 65, printed)?;
     }
     Ok(())
 }
@@ -119,14 +157,78 @@ fn ends_at_each_failing_call(rt: HostRuntime) -> Result<(), Fail> {
     Ok(())
 }
 
+// Inputs that hold two texts, under `one` and `two`.
+fn two_files(alloc: Global, one: &str, two: &str) -> Result<MemoryFiles, Memory> {
+    let mut files = Listed::new(alloc);
+    for (name, text) in [("one", one), ("two", two)] {
+        files.push(MemoryFile {
+            name: Listed::from_slice(alloc, name.as_bytes())?,
+            bytes: Listed::from_slice(alloc, text.as_bytes())?,
+        })?;
+    }
+    MemoryFiles::new(alloc, files, Listed::new(alloc))
+}
+
+// What a run on two texts printed, and its status.
+fn run_on_two(alloc: Global, one: &str, two: &str) -> Result<(u8, MemorySink), Memory> {
+    let mut files = two_files(alloc, one, two)?;
+    let mut out = failing(alloc, 0)?;
+    let mut proof = failing(alloc, 0)?;
+    let words = [
+        String::from_str(alloc, "one")?,
+        String::from_str(alloc, "two")?,
+    ];
+    let report = run(alloc, &words, &mut files, &mut out, &mut proof);
+    Ok((report.status, out))
+}
+
 #[test]
-fn refuses_two_words(rt: HostRuntime) -> Result<(), Fail> {
+fn reads_two_texts_as_one_program(rt: HostRuntime) -> Result<(), Fail> {
+    let rows = [
+        ("a :- b.", "b.", 10, "Answer: 1\na b\nSATISFIABLE\n"),
+        ("a.", "b.\n c d.", 65, "two:2:4: error: syntax error\n"),
+        ("a b.", "c d.", 65, "one:1:3: error: syntax error\n"),
+        (
+            "#const n=1.",
+            "a. #const n=2.",
+            65,
+            "two:1:11: error: constant not allowed\n",
+        ),
+        ("a.", "{b}.", 71, "error: not built\n"),
+    ];
+    for (one, two, status, printed) in rows {
+        let (ended, out) = run_on_two(rt.alloc(), one, two)?;
+        assert!(rt; ended == status);
+        assert!(rt; out.bytes() == printed.as_bytes());
+    }
+    Ok(())
+}
+
+#[test]
+fn ends_at_a_second_name_that_is_not_held(rt: HostRuntime) -> Result<(), Fail> {
     let alloc = rt.alloc();
     let mut files = holding(alloc, "a", "a.")?;
     let mut out = failing(alloc, 0)?;
     let mut proof = failing(alloc, 0)?;
-    let words = [String::from_str(alloc, "a")?, String::from_str(alloc, "a")?];
+    let words = [String::from_str(alloc, "a")?, String::from_str(alloc, "b")?];
+    let report = run(alloc, &words, &mut files, &mut out, &mut proof);
+    assert!(rt; report.status == 66);
+    assert!(rt; out.bytes().is_empty());
+    Ok(())
+}
+
+#[test]
+fn refuses_a_word_that_is_no_name(rt: HostRuntime) -> Result<(), Fail> {
+    let alloc = rt.alloc();
+    let mut files = holding(alloc, "a", "a.")?;
+    let mut out = failing(alloc, 0)?;
+    let mut proof = failing(alloc, 0)?;
+    let words = [
+        String::from_str(alloc, "a")?,
+        String::from_str(alloc, "-n")?,
+    ];
     let report = run(alloc, &words, &mut files, &mut out, &mut proof);
     assert!(rt; report.status == 71);
+    assert!(rt; out.bytes() == b"error: not built\n".as_slice());
     Ok(())
 }

@@ -1,10 +1,6 @@
-pub mod WordLemmas
-pub mod TokenLemmas
 pub mod Tables
-pub mod Turns
-pub mod Depth
-pub mod Complete
-pub mod Sound
-pub mod Laws
-pub mod Atoms
-pub mod Statements
+pub mod There
+pub mod Layers
+pub mod Functions
+pub mod Each
+pub mod Stated

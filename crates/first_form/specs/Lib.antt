@@ -1,5 +1,2 @@
-pub mod Word
-pub mod Spelled
-pub mod Grammar
 pub mod Form
-pub mod Reading
+pub mod Answered

@@ -1,12 +1,15 @@
-// Texts, and what is read of them.
+// Statements, and what is read of them.
 ghost use Rattle.std.specs.Prelude.{[], ◌∷◌};
 ghost use Rattle.first_form.specs.Form.{HaveKnown};
 
-use crate::statement::{DefiniteStatement, read_statements};
+use crate::made_statements::{
+    Other, applied, applied_to_two, atoms, body, comparison, fact, identifier, made, nested, rule,
+};
+use crate::statement::{DefiniteStatement, MAX_STATEMENTS, read_statements};
 use crate::stop::FormStop;
-use lexer::tokens;
 use std::alloc::Global;
 use symbols::{Listed, Memory, SymbolTable};
+use syntax_tree::{Head, Literal, Statement, Term};
 
 // Adds the text of a statement, without blanks.
 fn write_statement(
@@ -26,13 +29,10 @@ fn write_statement(
     out.append(b".")
 }
 
-// What is read of a text, written without blanks.
-fn read(alloc: Global, text: &[u8]) -> Result<Listed<u8>, FormStop> {
-    let Ok(tokens) = tokens(alloc, text) else {
-        return Err(FormStop::OtherForm);
-    };
+// What is read of statements, written without blanks.
+fn read(alloc: Global, statements: &[Statement]) -> Result<Listed<u8>, FormStop> {
     let mut symbols = SymbolTable::new(alloc)?;
-    let statements = read_statements(alloc, text, tokens.items(), &mut symbols)?;
+    let statements = read_statements(alloc, statements, &mut symbols)?;
     let mut out = Listed::new(alloc);
     for statement in statements.items() {
         write_statement(&symbols, statement, &mut out)?;
@@ -40,71 +40,138 @@ fn read(alloc: Global, text: &[u8]) -> Result<Listed<u8>, FormStop> {
     Ok(out)
 }
 
-fn is_read(alloc: Global, text: &[u8], wanted: &[u8]) -> bool {
-    match read(alloc, text) {
+fn is_read(alloc: Global, statements: &[Statement], wanted: &[u8]) -> bool {
+    match read(alloc, statements) {
         Ok(out) => out.items() == wanted,
         Err(_) => false,
     }
 }
 
-fn is_other(alloc: Global, text: &[u8]) -> bool {
-    match read(alloc, text) {
-        Err(FormStop::OtherForm) => true,
-        _ => false,
+// Whether a statement alone is of another form.
+fn is_other(alloc: Global, statement: Statement) -> Result<bool, Memory> {
+    let mut statements = Listed::new(alloc);
+    statements.push(statement)?;
+    match read(alloc, statements.items()) {
+        Err(FormStop::OtherForm) => Ok(true),
+        Err(FormStop::Memory) => Err(Memory),
+        Ok(_) => Ok(false),
     }
 }
 
-// A fact whose argument lists nest so deep.
-fn nested(alloc: Global, depth: usize) -> Result<Listed<u8>, Memory> {
-    let mut text = Listed::new(alloc);
-    for _ in 0..depth {
-        text.append(b"f(")?;
+// So many facts `a.`
+fn facts(alloc: Global, count: usize) -> Result<Listed<Statement>, Memory> {
+    let mut statements = Listed::new(alloc);
+    for _ in 0..count {
+        statements.push(fact(alloc, identifier(alloc, b"a")?))?;
     }
-    text.append(b"1")?;
-    for _ in 0..depth {
-        text.append(b")")?;
-    }
-    text.append(b".")?;
-    Ok(text)
+    Ok(statements)
+}
+
+// `b :- a.`
+fn one_above(alloc: Global) -> Result<Statement, Memory> {
+    let head = Head::Atom(identifier(alloc, b"b")?);
+    let below = Literal::Atom(identifier(alloc, b"a")?, true);
+    let literals = body(alloc, below)?;
+    Ok(rule(alloc, head, literals, true))
+}
+
+// `p(f(1),2) :- b, a.`
+fn two_above(alloc: Global) -> Result<Statement, Memory> {
+    let left = applied(alloc, b"f", Term::Number(1))?;
+    let atom = applied_to_two(alloc, b"p", left, Term::Number(2))?;
+    let literals = atoms(alloc, b"b", b"a")?;
+    Ok(rule(alloc, Head::Atom(atom), literals, true))
+}
+
+// `b :- a. a. p(f(1),2) :- b, a.`
+fn three(alloc: Global) -> Result<Listed<Statement>, Memory> {
+    let mut statements = Listed::new(alloc);
+    statements.push(one_above(alloc)?)?;
+    statements.push(fact(alloc, identifier(alloc, b"a")?))?;
+    statements.push(two_above(alloc)?)?;
+    Ok(statements)
 }
 
 #[test]
-fn reads_statements(rt: HostRuntime) {
-    let alloc = rt.alloc();
-    let long = b"b :- a. a. c :- d. p(f(1),2) :- b, a.";
-    assert!(rt; is_read(alloc, long, b"b:-a.a.c:-d.p(f(1),2):-b,a."));
-    assert!(rt; is_read(alloc, b"", b""));
-    assert!(rt; is_read(alloc, b"a :- b. b :- a.", b"a:-b.b:-a."));
-    assert!(rt;
-        is_read(
-            alloc,
-            b"p(x, q(2147483647, y), 0).",
-            b"p(x,q(2147483647,y),0)."
-        )
-    );
+fn reads_statements(rt: HostRuntime) -> Result<(), Memory> {
+    let statements = three(rt.alloc())?;
+    assert!(rt; is_read(rt.alloc(), statements.items(), b"b:-a.a.p(f(1),2):-b,a."));
+    assert!(rt; is_read(rt.alloc(), &[], b""));
+    Ok(())
 }
 
 #[test]
-fn refuses_other_forms(rt: HostRuntime) {
+fn refuses_other_terms(rt: HostRuntime) -> Result<(), Memory> {
     let alloc = rt.alloc();
-    assert!(rt; is_other(alloc, b"{a}."));
-    assert!(rt; is_other(alloc, b"a"));
-    assert!(rt; is_other(alloc, b"a :- ."));
-    assert!(rt; is_other(alloc, b"p()."));
-    assert!(rt; is_other(alloc, b"not."));
-    assert!(rt; is_other(alloc, b"a :- not b."));
-    assert!(rt; is_other(alloc, b"p(-1)."));
-    assert!(rt; is_other(alloc, b"p(1"));
-    assert!(rt; is_other(alloc, b"1."));
-    assert!(rt; is_other(alloc, b"a :- b,."));
-    assert!(rt; is_other(alloc, b"a. ."));
+    let rows = [
+        Other::Negative,
+        Other::Variable,
+        Other::Anonymous,
+        Other::Text,
+        Other::Tuple,
+        Other::Sum,
+        Other::Product,
+        Other::Minus,
+        Other::Interval,
+        Other::NoName,
+        Other::NoText,
+    ];
+    for row in rows {
+        assert!(rt; is_other(alloc, fact(alloc, made(alloc, row)?))?);
+        let within = applied(alloc, b"p", made(alloc, row)?)?;
+        assert!(rt; is_other(alloc, fact(alloc, within))?);
+    }
+    assert!(rt; is_other(alloc, fact(alloc, Term::Number(1)))?);
+    Ok(())
+}
+
+// `a :- T.` for a literal T.
+fn above(alloc: Global, literal: Literal) -> Result<Statement, Memory> {
+    let head = Head::Atom(identifier(alloc, b"a")?);
+    Ok(rule(alloc, head, body(alloc, literal)?, true))
+}
+
+#[test]
+fn refuses_other_literals(rt: HostRuntime) -> Result<(), Memory> {
+    let alloc = rt.alloc();
+    let negative = Literal::Atom(identifier(alloc, b"b")?, false);
+    assert!(rt; is_other(alloc, above(alloc, negative)?)?);
+    assert!(rt; is_other(alloc, above(alloc, comparison())?)?);
+    assert!(rt; is_other(alloc, above(alloc, Literal::Atom(Term::Number(1), true))?)?);
+    Ok(())
+}
+
+#[test]
+fn refuses_other_statements(rt: HostRuntime) -> Result<(), Memory> {
+    let alloc = rt.alloc();
+    let head = Head::Atom(identifier(alloc, b"a")?);
+    assert!(rt; is_other(alloc, rule(alloc, head, Listed::new(alloc), true))?);
+    let head = Head::Atom(identifier(alloc, b"a")?);
+    assert!(rt; is_other(alloc, rule(alloc, head, atoms(alloc, b"b", b"c")?, false))?);
+    let nothing = rule(alloc, Head::Nothing, atoms(alloc, b"b", b"c")?, true);
+    assert!(rt; is_other(alloc, nothing)?);
+    assert!(rt; is_other(alloc, Statement::ShowNothing)?);
+    assert!(rt; is_other(alloc, Statement::Show(Listed::from_slice(alloc, b"a")?, 0))?);
+    let constant = Statement::Constant(Listed::from_slice(alloc, b"n")?, Term::Number(1), 7);
+    assert!(rt; is_other(alloc, constant)?);
+    Ok(())
 }
 
 #[test]
 fn reads_nested_lists(rt: HostRuntime) -> Result<(), Memory> {
-    let deep = nested(rt.alloc(), 64)?;
-    assert!(rt; is_read(rt.alloc(), deep.items(), deep.items()));
-    let deeper = nested(rt.alloc(), 65)?;
-    assert!(rt; is_other(rt.alloc(), deeper.items()));
+    let alloc = rt.alloc();
+    assert!(rt; !is_other(alloc, fact(alloc, nested(alloc, 64)?))?);
+    assert!(rt; is_other(alloc, fact(alloc, nested(alloc, 65)?))?);
+    Ok(())
+}
+
+#[test]
+fn reads_as_many_statements(rt: HostRuntime) -> Result<(), Memory> {
+    let alloc = rt.alloc();
+    let mut symbols = SymbolTable::new(alloc)?;
+    let all = facts(alloc, MAX_STATEMENTS)?;
+    assert!(rt; read_statements(alloc, all.items(), &mut symbols).is_ok());
+    let more = facts(alloc, MAX_STATEMENTS + 1)?;
+    assert!(rt; read_statements(alloc, more.items(), &mut symbols).is_err());
     Ok(())
 }

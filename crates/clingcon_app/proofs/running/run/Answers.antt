@@ -1,41 +1,77 @@
-use Rattle.std.proofs.Common.{◌++◌, Err, rules, ap}
-use Rattle.clingcon_app.specs.Printed.{satisfiable, IsOtherText}
-use Rattle.clingcon_app.proofs.OutcomeLemmas.{other_from_long, told_from_read, refused_from, not_built_from, cut_off_refusal, answer_from, answered_from, cut_off_answer}
+use Rattle.std.proofs.Common.{◌≡◌, ℕ, ◌<◌, ◌^◌, ◌++◌, List, length, true, false, refl, sym, ◌∙◌, ap, subst, rules}
+use Rattle.clingcon_app.specs.Words.{are_files, names_of}
+use Rattle.clingcon_app.specs.Texts.{AreTexts, AreRefused, IsTooLarge, too_large_line}
+use Rattle.clingcon_app.specs.Printed.{PrintTexts, AreOther, not_built, satisfiable}
+use Rattle.clingcon_app.proofs.TextLemmas.{length-told, few-names}
+use Rattle.clingcon_app.proofs.OutcomeLemmas.{printed-unnamed, printed-unbuilt, printed-answer, printed-refused, printed-large, ended-by, cut-by, cut-maybe}
 use Rattle.clingcon_app.proofs.running.run.Goals as goal
+
+pub returns-then-not-are_files-clause-front : goal.returns-then-not-are_files-clause-front
+returns-then-not-are_files-clause-front g c = λ is.
+    let unnamed : are_files c.args.words.now ≡ false = search rules in
+    cut-by g.F.Files.text g.O.Sink.written 71 c.args.files.now c.args.words.now c.args.out.now c.refuse.new.out not_built
+    (printed-unnamed g.F.Files.text c.args.files.now c.args.words.now not_built unnamed refl) (c.refuse.ensures.front is)
+
+pub name_at-requires : goal.name_at-requires
+name_at-requires g c = let below : c.in-Err-TooLarge.at < length (names_of c.args.words.now) = search rules in below
 
 pub returns-in-Err-TooLarge-clause-front : goal.returns-in-Err-TooLarge-clause-front
 returns-in-Err-TooLarge-clause-front g c = λ is.
-    cut_off_refusal g.F.Files.text g.O.Sink.written c.args.files.now c.args.words.now c.args.out.now c.refuse-in-Err-TooLarge.new.out
-    (refused_from g.F.Files.text g.O.Sink.written c.args.files.now c.args.words.now c.in-Some.name.now c.in-Some.ensures.named
-    (other_from_long (g.F.Files.text c.args.files.now c.in-Some.name.now) (c.in-Err-TooLarge.ensures.too_long (ap Err c.in-Err-TooLarge.field-0-is))))
-    (c.refuse-in-Err-TooLarge.ensures.front is)
+    let named : are_files c.args.words.now ≡ true = search rules in
+    let large : IsTooLarge g.F.Files.text c.args.files.now (names_of c.args.words.now) c.name_at.result.now = search rules in
+    cut-maybe g.F.Files.text g.O.Sink.written 70 c.args.files.now c.args.words.now c.args.out.now c.refuse_size.new.out (too_large_line c.name_at.result.now)
+    (printed-large g.F.Files.text c.args.files.now c.args.words.now c.name_at.result.now named large) (c.refuse_size.ensures.front is)
 
-pub returns-in-Ok-answer_block-clause-answered : goal.returns-in-Ok-answer_block-clause-answered
-returns-in-Ok-answer_block-clause-answered g c = λ is.
-    answered_from g.F.Files.text g.O.Sink.written c.args.files.now c.args.words.now c.args.out.now c.print_answer.new.out (c.in-Ok-answer_block.block ++ satisfiable)
-    (answer_from g.F.Files.text g.O.Sink.written c.args.files.now c.args.words.now c.in-Some.name.now (c.in-Ok-answer_block.block ++ satisfiable)
-    c.in-Ok.text c.items.result.now c.in-Some.ensures.named c.in-Ok.ensures.whole c.items.ensures c.in-Ok-answer_block.ensures.printed)
-    (rw c.items-in-Ok-answer_block.ensures at (c.print_answer.ensures.whole is))
+pub verdict_of-requires-clause-named : goal.verdict_of-requires-clause-named
+verdict_of-requires-clause-named g c =
+    ap length c.items.ensures ∙ length-told g.F.Files.text c.args.files.now (names_of c.args.words.now) c.in-Ok.texts c.in-Ok.ensures.texts.told
 
-pub returns-in-Ok-answer_block-clause-front : goal.returns-in-Ok-answer_block-clause-front
-returns-in-Ok-answer_block-clause-front g c = λ is.
-    cut_off_answer g.F.Files.text g.O.Sink.written c.args.files.now c.args.words.now c.args.out.now c.print_answer.new.out (c.in-Ok-answer_block.block ++ satisfiable)
-    (answer_from g.F.Files.text g.O.Sink.written c.args.files.now c.args.words.now c.in-Some.name.now (c.in-Ok-answer_block.block ++ satisfiable)
-    c.in-Ok.text c.items.result.now c.in-Some.ensures.named c.in-Ok.ensures.whole c.items.ensures c.in-Ok-answer_block.ensures.printed)
-    (rw c.items-in-Ok-answer_block.ensures at (c.print_answer.ensures.front is))
+pub verdict_of-requires-clause-few : goal.verdict_of-requires-clause-few
+verdict_of-requires-clause-few g c =
+    let named : are_files c.args.words.now ≡ true = search rules in
+    subst (λ (n : ℕ). n < 2 ^ 32)
+    (sym (ap length c.items.ensures ∙ length-told g.F.Files.text c.args.files.now (names_of c.args.words.now) c.in-Ok.texts c.in-Ok.ensures.texts.told))
+    (few-names c.args.words.now named)
 
-pub returns-in-Err-OtherForm-clause-not_built : goal.returns-in-Err-OtherForm-clause-not_built
-returns-in-Err-OtherForm-clause-not_built g c = λ is.
-    not_built_from g.F.Files.text g.O.Sink.written c.args.files.now c.args.words.now c.args.out.now c.refuse-in-Err-OtherForm.new.out
-    (refused_from g.F.Files.text g.O.Sink.written c.args.files.now c.args.words.now c.in-Some.name.now c.in-Some.ensures.named
-    (told_from_read IsOtherText (g.F.Files.text c.args.files.now c.in-Some.name.now) c.in-Ok.text c.items.result.now c.in-Ok.ensures.whole c.items.ensures
-    (c.in-Err-OtherForm.ensures.other (search rules))))
-    (c.refuse-in-Err-OtherForm.ensures.whole is)
+pub returns-in-Ok-Answer-clause-ended : goal.returns-in-Ok-Answer-clause-ended
+returns-in-Ok-Answer-clause-ended g c =
+    let named : are_files c.args.words.now ≡ true = search rules in
+    let prints : PrintTexts c.items.result.now (c.in-Ok-Answer.block ++ satisfiable) = search rules in
+    ended-by g.F.Files.text g.O.Sink.written c.print_answer.result.status 10 c.args.files.now c.args.words.now c.args.out.now c.print_answer.new.out
+    (c.items-in-Ok-Answer.result.now ++ satisfiable)
+    (printed-answer g.F.Files.text c.args.files.now c.args.words.now c.items.result.now (c.items-in-Ok-Answer.result.now ++ satisfiable) named
+    (subst (λ (l : List (List ℕ)). AreTexts g.F.Files.text c.args.files.now (names_of c.args.words.now) l) (sym c.items.ensures) c.in-Ok.ensures.texts)
+    (subst (λ (l : List ℕ). PrintTexts c.items.result.now (l ++ satisfiable)) (sym c.items-in-Ok-Answer.ensures) prints))
+    c.print_answer.ensures.statuses c.print_answer.ensures.whole
 
-pub returns-in-Err-OtherForm-clause-front : goal.returns-in-Err-OtherForm-clause-front
-returns-in-Err-OtherForm-clause-front g c = λ is.
-    cut_off_refusal g.F.Files.text g.O.Sink.written c.args.files.now c.args.words.now c.args.out.now c.refuse-in-Err-OtherForm.new.out
-    (refused_from g.F.Files.text g.O.Sink.written c.args.files.now c.args.words.now c.in-Some.name.now c.in-Some.ensures.named
-    (told_from_read IsOtherText (g.F.Files.text c.args.files.now c.in-Some.name.now) c.in-Ok.text c.items.result.now c.in-Ok.ensures.whole c.items.ensures
-    (c.in-Err-OtherForm.ensures.other (search rules))))
-    (c.refuse-in-Err-OtherForm.ensures.front is)
+pub returns-in-Ok-Answer-clause-front : goal.returns-in-Ok-Answer-clause-front
+returns-in-Ok-Answer-clause-front g c = λ is.
+    let named : are_files c.args.words.now ≡ true = search rules in
+    let prints : PrintTexts c.items.result.now (c.in-Ok-Answer.block ++ satisfiable) = search rules in
+    cut-by g.F.Files.text g.O.Sink.written 10 c.args.files.now c.args.words.now c.args.out.now c.print_answer.new.out
+    (c.items-in-Ok-Answer.result.now ++ satisfiable)
+    (printed-answer g.F.Files.text c.args.files.now c.args.words.now c.items.result.now (c.items-in-Ok-Answer.result.now ++ satisfiable) named
+    (subst (λ (l : List (List ℕ)). AreTexts g.F.Files.text c.args.files.now (names_of c.args.words.now) l) (sym c.items.ensures) c.in-Ok.ensures.texts)
+    (subst (λ (l : List ℕ). PrintTexts c.items.result.now (l ++ satisfiable)) (sym c.items-in-Ok-Answer.ensures) prints))
+    (c.print_answer.ensures.front is)
+
+pub returns-in-Ok-Refused-clause-front : goal.returns-in-Ok-Refused-clause-front
+returns-in-Ok-Refused-clause-front g c = λ is.
+    let named : are_files c.args.words.now ≡ true = search rules in
+    let refused : AreRefused (names_of c.args.words.now) c.items.result.now c.in-Ok-Refused.line = search rules in
+    cut-by g.F.Files.text g.O.Sink.written 65 c.args.files.now c.args.words.now c.args.out.now c.refuse-in-Ok-Refused.new.out
+    c.items-in-Ok-Refused.result.now
+    (printed-refused g.F.Files.text c.args.files.now c.args.words.now c.items.result.now c.items-in-Ok-Refused.result.now named
+    (subst (λ (l : List (List ℕ)). AreTexts g.F.Files.text c.args.files.now (names_of c.args.words.now) l) (sym c.items.ensures) c.in-Ok.ensures.texts)
+    (subst (λ (l : List ℕ). AreRefused (names_of c.args.words.now) c.items.result.now l) (sym c.items-in-Ok-Refused.ensures) refused))
+    (c.refuse-in-Ok-Refused.ensures.front is)
+
+pub returns-in-Ok-NotBuilt-clause-front : goal.returns-in-Ok-NotBuilt-clause-front
+returns-in-Ok-NotBuilt-clause-front g c = λ is.
+    let named : are_files c.args.words.now ≡ true = search rules in
+    let other : AreOther c.items.result.now = search rules in
+    cut-by g.F.Files.text g.O.Sink.written 71 c.args.files.now c.args.words.now c.args.out.now c.refuse-in-Ok-NotBuilt.new.out not_built
+    (printed-unbuilt g.F.Files.text c.args.files.now c.args.words.now c.items.result.now not_built named
+    (subst (λ (l : List (List ℕ)). AreTexts g.F.Files.text c.args.files.now (names_of c.args.words.now) l) (sym c.items.ensures) c.in-Ok.ensures.texts)
+    other refl)
+    (c.refuse-in-Ok-NotBuilt.ensures.front is)

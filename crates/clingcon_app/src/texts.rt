@@ -1,0 +1,57 @@
+// Reading the texts of the inputs.
+ghost use Rattle.std.specs.Prelude.{length, IfOk, IfErr, IsErrOf};
+ghost use Rattle.outside_io.specs.Faults.{RisesWhere};
+ghost use Rattle.clingcon_app.specs.Words.{names_of};
+ghost use Rattle.clingcon_app.specs.Texts.{AreTexts, IsNumbered, IsStoppedBy};
+
+use crate::words::{count_of, name_at};
+use outside_io::{Files, ReadStop, read_text};
+use std::alloc::Global;
+use symbols::Listed;
+
+// The most bytes of a text, 16 MiB, and of all texts, 64 MiB.
+const MOST_BYTES: usize = 16_777_216;
+
+const MOST_IN_ALL: usize = 67_108_864;
+
+/// Why the texts are not read.
+#[derive(Clone, Copy, Debug, PartialEq, Eq)]
+pub(crate) enum TextsStop {
+    /// An input failed.
+    Failed,
+    /// The text of the input with this number, from 0, is too large, or with it all texts are.
+    TooLarge(usize),
+    /// Memory could not be had.
+    Memory,
+}
+
+/// The texts of the inputs that the words name, in order.
+pub(crate) fn read_texts<F: Files>(
+    alloc: Global,
+    words: &[String],
+    files: &mut F,
+) -> Result<Listed<Listed<u8>>, TextsStop>
+    ensures texts { IfOk result (AreTexts F.text files.old (names_of words.now)) }
+    ensures stop { IfErr result (IsStoppedBy F.text files.old (names_of words.now)) }
+    ensures number { IfErr result (IsNumbered (length (names_of words.now))) }
+    ensures cause { RisesWhere (IsErrOf result TextsStop.Failed) (F.faults files.old) (F.faults files.new) }
+{
+    let mut texts = Listed::new(alloc);
+    let mut room = MOST_IN_ALL;
+    for at in 0..count_of(words) {
+        let most = if room < MOST_BYTES { room } else { MOST_BYTES };
+        match read_text(alloc, files, name_at(words, at), most) {
+            Ok(text) => {
+                room -= text.len();
+                match texts.push(text) {
+                    Ok(()) => {}
+                    Err(_) => return Err(TextsStop::Memory),
+                }
+            }
+            Err(ReadStop::Failed) => return Err(TextsStop::Failed),
+            Err(ReadStop::TooLarge) => return Err(TextsStop::TooLarge(at)),
+            Err(ReadStop::Memory) => return Err(TextsStop::Memory),
+        }
+    }
+    Ok(texts)
+}
