@@ -6,3 +6,7 @@ pub mod TextLemmas
 pub mod StatementLemmas
 pub mod RefusalLemmas
 pub mod OutcomeLemmas
+pub mod OneConstants
+pub mod OneTexts
+pub mod OneProgram
+pub mod OneOutcome

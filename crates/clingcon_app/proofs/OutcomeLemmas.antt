@@ -12,7 +12,8 @@ use Rattle.clingcon_app.specs.declared.answering.Verdict.TheVariants.{Answer, Re
 use Rattle.clingcon_app.specs.Words.{are_files, names_of}
 use Rattle.clingcon_app.specs.Texts.{AreTexts, AreRefused, IsTooLarge, IsProgram, too_large_line}
 use Rattle.clingcon_app.specs.Printed.{PrintTexts, AreOther, not_built}
-use Rattle.clingcon_app.specs.Outcome.{IsJudged, IsVerdict, IsEnding, IsPrinted, IsEnded, IsCutOff}
+use Rattle.clingcon_app.specs.Stops.{IsJudged, IsVerdict}
+use Rattle.clingcon_app.specs.Outcome.{IsEnding, IsPrinted, IsEnded, IsCutOff}
 
 -- what is printed for the program of texts is printed for them
 pub verdict-from : (names texts : List (List ℕ)) (program : Program) (v : Verdict) → IsProgram texts program → IsJudged program v → IsVerdict names texts v

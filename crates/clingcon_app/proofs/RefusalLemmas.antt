@@ -11,7 +11,8 @@ use Rattle.asp_parser.specs.declared.fault.TextFault.{TextFault}
 use Rattle.asp_parser.specs.Constants.{IsFirstBad}
 use Rattle.clingcon_app.specs.declared.parsing.ProgramStop.{ProgramStop}
 use Rattle.clingcon_app.specs.declared.parsing.ProgramStop.TheVariants.{Refused, Memory}
-use Rattle.clingcon_app.specs.Texts.{line_at, cause_text, constant_line, IsWritten, HasFirstFault, IsRefusal, IsRefusalWith}
+use Rattle.clingcon_app.specs.Texts.{line_at, cause_text, constant_line, IsWritten, HasFirstFault}
+use Rattle.clingcon_app.specs.Stops.{IsRefusal, IsRefusalWith}
 use Rattle.clingcon_app.proofs.StatementLemmas.{length-statements, numbers-below}
 
 -- a place behind the text is its end

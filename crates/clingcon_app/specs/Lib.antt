@@ -3,4 +3,5 @@ pub mod Texts
 pub mod Program
 pub mod Printed
 pub mod Outcome
+pub mod Stops
 pub mod Numbering

@@ -1,15 +1,11 @@
 -- What a status of the top call says.
-use Rattle.std.specs.Prelude.{◌≡◌, ◌⊎◌, ℕ, true, false, take, List, ◌++◌, String}
+use Rattle.std.specs.Prelude.{◌≡◌, ◌⊎◌, ℕ, true, false, take, List, String}
 use Rattle.std.specs.Global.{Global}
 use Rattle.std.specs.declared.option.Option.{Option}
 use Rattle.std.specs.Io.KnownBytes.{Appends}
-use Rattle.syntax_tree.specs.declared.statement.Program.{Program}
-use Rattle.first_form.specs.Form.{SymbolRule, States}
 use Rattle.clingcon_app.specs.Words.{are_files, names_of}
 use Rattle.clingcon_app.specs.Texts.{AreTexts, IsTooLarge, AreRefused, too_large_line}
-use Rattle.clingcon_app.specs.Printed.{PrintsAnswer, PrintTexts, AreOther, not_built, satisfiable}
-use Rattle.clingcon_app.specs.declared.answering.Verdict.{Verdict}
-use Rattle.clingcon_app.specs.declared.answering.Verdict.TheVariants as verdict
+use Rattle.clingcon_app.specs.Printed.{PrintTexts, AreOther, not_built}
 
 -- the statuses of refusals
 abbrev pub IsRefusing : ℕ → Type 0
@@ -30,18 +26,6 @@ Answers names texts printed = PrintTexts texts printed
 
 abbrev pub IsUnbuilt : List (List ℕ) → List (List ℕ) → List ℕ → Type 0
 IsUnbuilt names texts printed = AreOther texts × (printed ≡ not_built)
-
--- the same for what the code gives
-abbrev pub IsVerdict : List (List ℕ) → List (List ℕ) → Verdict → Type 0
-IsVerdict names texts (verdict.Answer block) = PrintTexts texts (block ++ satisfiable)
-IsVerdict names texts (verdict.Refused line) = AreRefused names texts line
-IsVerdict names texts verdict.NotBuilt = AreOther texts
-
--- what is printed for a program whose constants are replaced: its one answer where it has the first form, or that it has not
-abbrev pub IsJudged : Program → Verdict → Type 0
-IsJudged program (verdict.Answer block) = (stated : List SymbolRule) × States program.statements stated × PrintsAnswer stated (block ++ satisfiable)
-IsJudged program (verdict.Refused line) = ⊥
-IsJudged program verdict.NotBuilt = (stated : List SymbolRule) → States program.statements stated → ⊥
 
 module _ {F : Type 0} (text_of : F → List ℕ → Option (List ℕ)) where
   -- the words name inputs whose texts have permitted sizes, and this is so of them

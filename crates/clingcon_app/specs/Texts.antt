@@ -1,5 +1,5 @@
 -- What the texts of the inputs say together: their statements, or the first refusal.
-use Rattle.std.specs.Prelude.{◌≡◌, ℕ, ◌+◌, ◌<◌, ◌≤◌, ◌^◌, ◌⊎◌, List, [], ◌∷◌, ◌++◌, length, replicate, take, slice_get, Some, IfSome, Result, Ok, Err, codes}
+use Rattle.std.specs.Prelude.{◌≡◌, ℕ, ◌+◌, ◌<◌, ◌≤◌, ◌^◌, ◌⊎◌, List, [], ◌∷◌, ◌++◌, length, replicate, take, slice_get, Some, IfSome, codes}
 use Rattle.std.specs.Fmt.{decimal}
 use Rattle.std.specs.declared.option.Option.{Option}
 use Rattle.lexer.specs.Places.{line_of, column_of}
@@ -8,12 +8,6 @@ use Rattle.syntax_tree.specs.declared.statement.Program.{Program}
 use Rattle.asp_parser.specs.declared.fault.TextCause.{TextCause}
 use Rattle.asp_parser.specs.declared.fault.TextCause.TheVariants as cause
 use Rattle.asp_parser.specs.declared.fault.TextFault.{TextFault}
-use Rattle.clingcon_app.specs.declared.texts.TextsStop.{TextsStop}
-use Rattle.clingcon_app.specs.declared.texts.TextsStop.TheVariants as stop
-use Rattle.clingcon_app.specs.declared.parsing.WrittenStop.{WrittenStop}
-use Rattle.clingcon_app.specs.declared.parsing.WrittenStop.TheVariants as unwritten
-use Rattle.clingcon_app.specs.declared.parsing.ProgramStop.{ProgramStop}
-use Rattle.clingcon_app.specs.declared.parsing.ProgramStop.TheVariants as refusal
 use Rattle.asp_parser.specs.Parsed.{FoundText, IsTextFault}
 use Rattle.asp_parser.specs.Constants.{IsReplaced, IsFirstBad}
 
@@ -139,30 +133,3 @@ pub record HasBadConstant (names texts : List (List ℕ)) (printed : List ℕ) :
 -- the texts are refused with this line
 abbrev pub AreRefused : List (List ℕ) → List (List ℕ) → List ℕ → Type 0
 AreRefused names texts printed = IsFaulty names texts printed ⊎ HasBadConstant names texts printed
-
--- ---- why the code stops
-abbrev pub IsStoppedBy : {F : Type 0} → (F → List ℕ → Option (List ℕ)) → F → List (List ℕ) → TextsStop → Type 0
-IsStoppedBy text_of files names stop.Failed = Unit {0}
-IsStoppedBy text_of files names (stop.TooLarge at) = (name : List ℕ) → slice_get names at ≡ Some name → IsTooLarge text_of files names name
-IsStoppedBy text_of files names stop.Memory = Unit {0}
-
--- the number of a text that is too large is that of one of the texts
-abbrev pub IsNumbered : ℕ → TextsStop → Type 0
-IsNumbered n stop.Failed = Unit {0}
-IsNumbered n (stop.TooLarge at) = at < n
-IsNumbered n stop.Memory = Unit {0}
-
-abbrev pub IsFirstFault : List (List ℕ) → WrittenStop → Type 0
-IsFirstFault texts (unwritten.Fault at fault) = HasFirstFault texts at fault
-IsFirstFault texts unwritten.Memory = Unit {0}
-
-abbrev pub IsRefusal : List (List ℕ) → List (List ℕ) → ProgramStop → Type 0
-IsRefusal names texts (refusal.Refused line) = AreRefused names texts line
-IsRefusal names texts refusal.Memory = Unit {0}
-
--- a refusal with the line that was made, where memory could be had for it
-abbrev pub IsRefusalWith : {E : Type 0} → Result (List ℕ) E → ProgramStop → Type 0
-IsRefusalWith (Ok line) (refusal.Refused printed) = printed ≡ line
-IsRefusalWith (Ok line) refusal.Memory = ⊥
-IsRefusalWith (Err fault) (refusal.Refused printed) = ⊥
-IsRefusalWith (Err fault) refusal.Memory = Unit {0}

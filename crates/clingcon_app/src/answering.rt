@@ -3,7 +3,7 @@ ghost use Rattle.std.specs.Prelude.{◌≡◌, ◌<◌, ◌^◌, ◌++◌, lengt
 ghost use Rattle.symbols.specs.Table.{IsOnce};
 ghost use Rattle.first_form.specs.Form.{HaveKnown, rules_in};
 ghost use Rattle.clingcon_app.specs.Words.{names_of};
-ghost use Rattle.clingcon_app.specs.Outcome.{IsJudged, IsVerdict};
+ghost use Rattle.clingcon_app.specs.Stops.{IsJudged, IsVerdict};
 ghost use Rattle.clingcon_app.specs.Printed.{PrintsAnswer, satisfiable};
 
 use crate::grounding::program_of;

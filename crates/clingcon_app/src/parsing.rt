@@ -2,7 +2,8 @@
 ghost use Rattle.std.specs.Prelude.{◌≡◌, ◌<◌, ◌^◌, ◌++◌, length, replicate, OnOk, IfOk, IfErr, IsTrue};
 ghost use Rattle.syntax_tree.specs.Statements.{is_program};
 ghost use Rattle.clingcon_app.specs.Words.{names_of};
-ghost use Rattle.clingcon_app.specs.Texts.{IsProgram, IsWritten, IsFirstFault, IsRefusal, IsRefusalWith};
+ghost use Rattle.clingcon_app.specs.Texts.{IsProgram, IsWritten};
+ghost use Rattle.clingcon_app.specs.Stops.{IsFirstFault, IsRefusal, IsRefusalWith};
 
 use crate::refusing::{constant_line, fault_line};
 use crate::words::name_at;

@@ -158,19 +158,19 @@ fn ends_at_each_failing_call(rt: HostRuntime) -> Result<(), Fail> {
 }
 
 // Inputs that hold two texts, under `one` and `two`.
-fn two_files(alloc: Global, one: &str, two: &str) -> Result<MemoryFiles, Memory> {
+fn two_files(alloc: Global, one: &[u8], two: &[u8]) -> Result<MemoryFiles, Memory> {
     let mut files = Listed::new(alloc);
     for (name, text) in [("one", one), ("two", two)] {
         files.push(MemoryFile {
             name: Listed::from_slice(alloc, name.as_bytes())?,
-            bytes: Listed::from_slice(alloc, text.as_bytes())?,
+            bytes: Listed::from_slice(alloc, text)?,
         })?;
     }
     MemoryFiles::new(alloc, files, Listed::new(alloc))
 }
 
 // What a run on two texts printed, and its status.
-fn run_on_two(alloc: Global, one: &str, two: &str) -> Result<(u8, MemorySink), Memory> {
+fn run_on_two(alloc: Global, one: &[u8], two: &[u8]) -> Result<(u8, MemorySink), Memory> {
     let mut files = two_files(alloc, one, two)?;
     let mut out = failing(alloc, 0)?;
     let mut proof = failing(alloc, 0)?;
@@ -197,9 +197,84 @@ fn reads_two_texts_as_one_program(rt: HostRuntime) -> Result<(), Fail> {
         ("a.", "{b}.", 71, "error: not built\n"),
     ];
     for (one, two, status, printed) in rows {
-        let (ended, out) = run_on_two(rt.alloc(), one, two)?;
+        let (ended, out) = run_on_two(rt.alloc(), one.as_bytes(), two.as_bytes())?;
         assert!(rt; ended == status);
         assert!(rt; out.bytes() == printed.as_bytes());
+    }
+    Ok(())
+}
+
+// Whether a second text behind a fine one is refused so, with status 65.
+fn refuses_second(alloc: Global, text: &[u8], printed: &str) -> Result<bool, Memory> {
+    let (status, out) = run_on_two(alloc, b"a.", text)?;
+    Ok(status == 65 && out.bytes() == printed.as_bytes())
+}
+
+#[test]
+fn refuses_a_second_text_that_is_no_list_of_statements(rt: HostRuntime) -> Result<(), Fail> {
+    let rows = [
+        (b"a.\n b \xff.".as_slice(), "two:2:4: error: not UTF-8\n"),
+        (
+            b"a. \"b.".as_slice(),
+            "two:1:4: error: string is not closed\n",
+        ),
+        (
+            b"a. %* b.".as_slice(),
+            "two:1:4: error: comment is not closed\n",
+        ),
+        (
+            b"a. p(01).".as_slice(),
+            "two:1:7: error: unexpected character\n",
+        ),
+        (
+            b"a. p(3000000000).".as_slice(),
+            "two:1:6: error: number above 2147483647\n",
+        ),
+        (
+            b"a. b :- c d.".as_slice(),
+            "two:1:11: error: syntax error\n",
+        ),
+        (
+            b"a. p(----------------------------------------------------------------1).".as_slice(),
+            "two:1:69: error: nesting above 64\n",
+        ),
+    ];
+    for (text, printed) in rows {
+        assert!(rt; refuses_second(rt.alloc(), text, printed)?);
+    }
+    Ok(())
+}
+
+#[test]
+fn refuses_a_second_text_in_which_a_check_fails(rt: HostRuntime) -> Result<(), Fail> {
+    let rows = [
+        (
+            b"a. &sim{x}<=1.".as_slice(),
+            "two:1:5: error: unknown theory atom\n",
+        ),
+        (
+            b"a. b :- &dom{1..2}=x.".as_slice(),
+            "two:1:9: error: theory atom not allowed here\n",
+        ),
+        (
+            b"a. &sum{x}.".as_slice(),
+            "two:1:11: error: guard not allowed here\n",
+        ),
+        (
+            b"a. b :- 1+(1..2) = 3.".as_slice(),
+            "two:1:11: error: term not allowed here\n",
+        ),
+        (
+            b"a. p(_,_,_,_,_,_,_,_,_,_,_,_,_,_,_,_,_,_,_,_,_,_,_,_,_,_,_,_,_,_,_,_,_,_,_,_,_,_,_,_,_,_,_,_,_,_,_,_,_,_,_,_,_,_,_,_,_,_,_,_,_,_,_,_,X).".as_slice(),
+            "two:1:134: error: more than 64 variables\n",
+        ),
+        (
+            b"a. #const n=1/0.".as_slice(),
+            "two:1:11: error: constant not allowed\n",
+        ),
+    ];
+    for (text, printed) in rows {
+        assert!(rt; refuses_second(rt.alloc(), text, printed)?);
     }
     Ok(())
 }

@@ -2,7 +2,8 @@
 ghost use Rattle.std.specs.Prelude.{length, IfOk, IfErr, IsErrOf};
 ghost use Rattle.outside_io.specs.Faults.{RisesWhere};
 ghost use Rattle.clingcon_app.specs.Words.{names_of};
-ghost use Rattle.clingcon_app.specs.Texts.{AreTexts, IsNumbered, IsStoppedBy};
+ghost use Rattle.clingcon_app.specs.Texts.{AreTexts};
+ghost use Rattle.clingcon_app.specs.Stops.{IsNumbered, IsStoppedBy};
 
 use crate::words::{count_of, name_at};
 use outside_io::{Files, ReadStop, read_text};
