@@ -1,17 +1,18 @@
 -- What a nogood asks for, by the literals of it that are not true.
-use Rattle.std.proofs.Common.{◌≡◌, ℕ, ◌+◌, ◌<◌, ◌≤◌, ◌++◌, ◌&&◌, ◌||◌, Bool, true, false, not, cond, IsTrue, List, [], ◌∷◌, length, get_or, drop, Option, None, Some, refl, sym, ◌∙◌, ap, subst}
-use Rattle.std.specs.List.{AllByRecursion, filter, list_all}
+use Rattle.std.proofs.Common.{◌≡◌, ℕ, ◌+◌, ◌<◌, ◌≤◌, ◌++◌, ◌⊎◌, inl, inr, Bool, true, false, not, cond, IsTrue, List, [], ◌∷◌, length, get_or, drop, Option, None, Some, refl, sym, ◌∙◌, ap, subst}
+use Rattle.std.specs.List.{AllByRecursion, Contains, filter}
 use Rattle.std.specs.Option.{option_to_list, IfSome}
 use Rattle.std.specs.Prelude.{is_some}
 use Rattle.std.proofs.lemmas.List.{drop_more, drop_all}
 use Rattle.literals.specs.declared.lit.Lit.{Lit}
-use Rattle.literals.specs.Lits.{same_lit, complement_of}
-use Rattle.literals.specs.Nogoods.{is_before, Rises, has_lit, without}
-use Rattle.literals.proofs.LitLaws.{same_refl, same_lit-equal}
+use Rattle.literals.specs.Lits.{complement_of}
+use Rattle.literals.specs.Nogoods.{is_before, Rises}
 use Rattle.literals.proofs.OrderLaws.{before_not}
 use Rattle.trail.specs.Assignment.{Assignment, is_true_on, truth_on}
 use Rattle.trail.proofs.AssignmentLaws.{true-truth}
-use Rattle.nogood_store.specs.Propagation.{AllTrueOn, IsUnitAt, IsQuiet}
+use Rattle.trail.specs.Forced.{AllTrueOn, OthersTrueOn, AllButOpen}
+use Rattle.nogood_store.specs.Propagation.{IsQuiet}
+use Rattle.nogood_store.proofs.Members.{holds_contained, each_contained, each_own}
 
 -- the literals that are not true
 abbrev pub pending : Assignment → List Lit → List Lit
@@ -48,82 +49,52 @@ pending_open t xs i d h e = next t xs i d false h (open_untrue t (get_or xs i d)
 pub pending_false : (t : Assignment) (xs : List Lit) (i : ℕ) (d : Lit) → i < length xs → truth_on t (get_or xs i d) ≡ Some false → pending t (drop i xs) ≡ get_or xs i d ∷ pending t (drop (i + 1) xs)
 pending_false t xs i d h e = next t xs i d false h (false_untrue t (get_or xs i d) e)
 
+-- what holds of each that is left, or that it is true, holds of all
+or_true : (Q : Lit → Type 0) (t : Assignment) (xs : List Lit) → AllByRecursion Q (pending t xs) → AllByRecursion (λ m. Q m ⊎ (is_true_on t m ≡ true)) xs
+or_true Q t [] a = tt
+or_true Q t (x ∷ xs) a = cases (is_true_on t x) refl a (or_true Q t xs)
+  where
+    cases : (b : Bool) → is_true_on t x ≡ b → AllByRecursion Q (cond (not b) (x ∷ pending t xs) (pending t xs)) → (AllByRecursion Q (pending t xs) → AllByRecursion (λ m. Q m ⊎ (is_true_on t m ≡ true)) xs) → (Q x ⊎ (is_true_on t x ≡ true)) × AllByRecursion (λ m. Q m ⊎ (is_true_on t m ≡ true)) xs
+    cases true e f rest = (inr e, rest f)
+    cases false e f rest = (inl f.0, rest f.1)
+
+-- what holds of each that is not true holds of those left
+of_left : (Q : Lit → Type 0) (t : Assignment) (xs : List Lit) → AllByRecursion (λ m. Q m ⊎ (is_true_on t m ≡ true)) xs → AllByRecursion Q (pending t xs)
+of_left Q t [] a = tt
+of_left Q t (x ∷ xs) a = cases (is_true_on t x) refl a.0 (of_left Q t xs a.1)
+  where
+    cases : (b : Bool) → is_true_on t x ≡ b → Q x ⊎ (is_true_on t x ≡ true) → AllByRecursion Q (pending t xs) → AllByRecursion Q (cond (not b) (x ∷ pending t xs) (pending t xs))
+    cases true e f rest = rest
+    cases false e (inl f) rest = (f, rest)
+    cases false e (inr f) rest = clash (sym f ∙ e)
+
 -- where none is left, all are true
 pub none_pending : (t : Assignment) (xs : List Lit) → pending t xs ≡ [] → AllTrueOn t xs
-none_pending t [] h = refl
-none_pending t (x ∷ xs) h = cases (is_true_on t x) h (none_pending t xs)
+none_pending t xs h l c = on (holds_contained (λ m. ⊥ ⊎ (is_true_on t m ≡ true)) xs l (or_true (λ (m : Lit). ⊥) t xs (subst (AllByRecursion (λ (m : Lit). ⊥)) (sym h) tt)) c)
   where
-    cases : (b : Bool) → cond (not b) (x ∷ pending t xs) (pending t xs) ≡ [] → (pending t xs ≡ [] → AllTrueOn t xs) → (b && list_all (is_true_on t) xs) ≡ true
-    cases true e rest = rest e
-    cases false e rest = cc
+    on : ⊥ ⊎ (is_true_on t l ≡ true) → is_true_on t l ≡ true
+    on (inl f) = absurd f
+    on (inr f) = f
 
 -- where one is left, not all are true
-some_pending : (t : Assignment) (xs : List Lit) (y : Lit) (ys : List Lit) → pending t xs ≡ y ∷ ys → list_all (is_true_on t) xs ≡ false
-some_pending t [] y ys h = cc
-some_pending t (x ∷ xs) y ys h = cases (is_true_on t x) h (some_pending t xs y ys)
-  where
-    cases : (b : Bool) → cond (not b) (x ∷ pending t xs) (pending t xs) ≡ y ∷ ys → (pending t xs ≡ y ∷ ys → list_all (is_true_on t) xs ≡ false) → (b && list_all (is_true_on t) xs) ≡ false
-    cases true e rest = rest e
-    cases false e rest = refl
+some_pending : (t : Assignment) (xs : List Lit) (y : Lit) (ys : List Lit) → pending t xs ≡ y ∷ ys → AllTrueOn t xs → ⊥
+some_pending t xs y ys h all = (subst (AllByRecursion (λ (m : Lit). ⊥)) h (of_left (λ (m : Lit). ⊥) t xs (each_contained (λ m. ⊥ ⊎ (is_true_on t m ≡ true)) xs (λ m c. inr (all m c))))).0
 
-all_without : (p : Lit → Bool) (xs : List Lit) (l : Lit) → list_all p xs ≡ true → list_all p (without xs l) ≡ true
-all_without p [] l h = refl
-all_without p (x ∷ xs) l h = cases (same_lit x l) (p x) refl h (all_without p xs l)
-  where
-    cases : (s b : Bool) → p x ≡ b → (b && list_all p xs) ≡ true → (list_all p xs ≡ true → list_all p (without xs l) ≡ true) → list_all p (cond (not s) (x ∷ without xs l) (without xs l)) ≡ true
-    cases s false f e rest = clash (sym e)
-    cases true true f e rest = rest e
-    cases false true f e rest = rw f (rest e)
+filter_all : (P : Lit → Type 0) (p : Lit → Bool) (xs : List Lit) → AllByRecursion P xs → AllByRecursion P (filter p xs)
+filter_all P p [] a = tt
+filter_all P p (x ∷ xs) a = elim (p x) as (λ v. AllByRecursion P (cond v (x ∷ filter p xs) (filter p xs))) [ true ↦ (a.0, filter_all P p xs a.1) | false ↦ filter_all P p xs a.1 ]
 
-has_first : (x : Lit) (xs : List Lit) → has_lit (x ∷ xs) x ≡ true
-has_first x xs = rw (same_refl x) refl
-
-has_more : (x : Lit) (xs : List Lit) (l : Lit) → has_lit xs l ≡ true → has_lit (x ∷ xs) l ≡ true
-has_more x xs l h = cases (same_lit x l)
-  where
-    cases : (b : Bool) → (b || has_lit xs l) ≡ true
-    cases true = refl
-    cases false = h
-
-first_without : (p : Lit → Bool) (x : Lit) (xs : List Lit) → list_all p xs ≡ true → list_all p (without (x ∷ xs) x) ≡ true
-first_without p x xs h = rw (same_refl x) (all_without p xs x h)
-
-more_without : (p : Lit → Bool) (x : Lit) (xs : List Lit) (l : Lit) → p x ≡ true → list_all p (without xs l) ≡ true → list_all p (without (x ∷ xs) l) ≡ true
-more_without p x xs l f h = cases (same_lit x l)
-  where
-    cases : (s : Bool) → list_all p (cond (not s) (x ∷ without xs l) (without xs l)) ≡ true
-    cases true = h
-    cases false = rw f h
-
--- where one is left, it is of the nogood and the others are true
-one_pending : (t : Assignment) (xs : List Lit) (l : Lit) → pending t xs ≡ l ∷ [] → (has_lit xs l ≡ true) × AllTrueOn t (without xs l)
-one_pending t [] l h = cc
-one_pending t (x ∷ xs) l h = cases (is_true_on t x) refl h (one_pending t xs l)
-  where
-    cases : (b : Bool) → is_true_on t x ≡ b → cond (not b) (x ∷ pending t xs) (pending t xs) ≡ l ∷ [] → (pending t xs ≡ l ∷ [] → (has_lit xs l ≡ true) × AllTrueOn t (without xs l)) → (has_lit (x ∷ xs) l ≡ true) × AllTrueOn t (without (x ∷ xs) l)
-    cases true e f rest = let both = rest f in (has_more x xs l both.0, more_without (is_true_on t) x xs l e both.1)
-    cases false e f rest =
-        let same : x ≡ l = cc in
-        let none : pending t xs ≡ [] = cc in
-        subst (λ (y : Lit). (has_lit (x ∷ xs) y ≡ true) × AllTrueOn t (without (x ∷ xs) y)) same (has_first x xs, first_without (is_true_on t) x xs (none_pending t xs none))
-
-pub unit_pending : (t : Assignment) (xs : List Lit) (l : Lit) → pending t xs ≡ l ∷ [] → truth_on t l ≡ None → IsUnitAt t xs l
-unit_pending t xs l h e = let both = one_pending t xs l h in record { among = both.0; others = both.1; is_open = e }
+-- where one open one is left, it is of the nogood and the others are true
+pub unit_pending : (t : Assignment) (xs : List Lit) (l : Lit) → pending t xs ≡ l ∷ [] → truth_on t l ≡ None → AllButOpen t xs l
+unit_pending t xs l h e = record {
+  among = (subst (AllByRecursion (Contains xs)) h (filter_all (Contains xs) (λ m. not (is_true_on t m)) xs (each_own xs))).0;
+  is_open = e;
+  others = λ m c. holds_contained (λ k. (k ≡ l) ⊎ (is_true_on t k ≡ true)) xs m (or_true (λ k. k ≡ l) t xs (subst (AllByRecursion (λ k. k ≡ l)) (sym h) (refl, tt))) c;
+}
 
 -- where the others are true, only the one may be left
-only_pending : (t : Assignment) (xs : List Lit) (l : Lit) → AllTrueOn t (without xs l) → AllByRecursion (λ y. y ≡ l) (pending t xs)
-only_pending t [] l h = tt
-only_pending t (x ∷ xs) l h = cases (same_lit x l) (is_true_on t x) refl refl h (only_pending t xs l)
-  where
-    cases : (s b : Bool) → same_lit x l ≡ s → is_true_on t x ≡ b → list_all (is_true_on t) (cond (not s) (x ∷ without xs l) (without xs l)) ≡ true → (AllTrueOn t (without xs l) → AllByRecursion (λ y. y ≡ l) (pending t xs)) → AllByRecursion (λ y. y ≡ l) (cond (not b) (x ∷ pending t xs) (pending t xs))
-    cases true true f e g rest = rest g
-    cases true false f e g rest = (same_lit-equal x l f, rest g)
-    cases false true f e g rest = rest (after (is_true_on t x) g)
-      where
-        after : (c : Bool) → (c && list_all (is_true_on t) (without xs l)) ≡ true → list_all (is_true_on t) (without xs l) ≡ true
-        after true k = k
-        after false k = clash (sym k)
-    cases false false f e g rest = clash (sym (sym (ap (λ (c : Bool). c && list_all (is_true_on t) (without xs l)) e) ∙ g))
+only_pending : (t : Assignment) (xs : List Lit) (l : Lit) → OthersTrueOn t xs l → AllByRecursion (λ m. m ≡ l) (pending t xs)
+only_pending t xs l h = of_left (λ m. m ≡ l) t xs (each_contained (λ m. (m ≡ l) ⊎ (is_true_on t m ≡ true)) xs h)
 
 quiet_where : (t : Assignment) (xs : List Lit) (y : Lit) (ys : List Lit) → pending t xs ≡ y ∷ ys → ((l : Lit) → truth_on t l ≡ None → AllByRecursion (λ m. m ≡ l) (y ∷ ys) → ⊥) → IsQuiet t xs
 quiet_where t xs y ys h never = record {
@@ -137,10 +108,6 @@ quiet_false t xs y ys h e = quiet_where t xs y ys h (λ l f a. shut (sym e ∙ a
   where
     shut : Some false ≡ None → ⊥
     shut k = cc
-
-filter_all : (P : Lit → Type 0) (p : Lit → Bool) (xs : List Lit) → AllByRecursion P xs → AllByRecursion P (filter p xs)
-filter_all P p [] a = tt
-filter_all P p (x ∷ xs) a = elim (p x) as (λ v. AllByRecursion P (cond v (x ∷ filter p xs) (filter p xs))) [ true ↦ (a.0, filter_all P p xs a.1) | false ↦ filter_all P p xs a.1 ]
 
 rises_filter : (p : Lit → Bool) (xs : List Lit) → Rises xs → Rises (filter p xs)
 rises_filter p [] r = tt
@@ -171,8 +138,8 @@ pub ended_none : (t : Assignment) (xs : List Lit) (i : ℕ) (found : Option Lit)
 ended_none t xs i None inv h e = none_pending t xs (inv ∙ ap (pending t) (drop_all i xs h))
 ended_none t xs i (Some f) inv h e = cc
 
-pub ended_some : (t : Assignment) (xs : List Lit) (i : ℕ) (found : Option Lit) (l : Lit) → pending t xs ≡ option_to_list found ++ pending t (drop i xs) → IfSome found (λ x. truth_on t x ≡ None) → length xs ≤ i → found ≡ Some l → IsUnitAt t xs l
+pub ended_some : (t : Assignment) (xs : List Lit) (i : ℕ) (found : Option Lit) (l : Lit) → pending t xs ≡ option_to_list found ++ pending t (drop i xs) → IfSome found (λ x. truth_on t x ≡ None) → length xs ≤ i → found ≡ Some l → AllButOpen t xs l
 ended_some t xs i None l inv o h e = cc
 ended_some t xs i (Some f) l inv o h e =
     let same : f ≡ l = cc in
-    subst (IsUnitAt t xs) same (unit_pending t xs f (inv ∙ ap (λ ys. f ∷ pending t ys) (drop_all i xs h)) o)
+    subst (AllButOpen t xs) same (unit_pending t xs f (inv ∙ ap (λ ys. f ∷ pending t ys) (drop_all i xs h)) o)

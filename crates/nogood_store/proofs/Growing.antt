@@ -1,13 +1,12 @@
 -- How a trail grows by what held nogoods force.
-use Rattle.std.proofs.Common.{◌≡◌, ℕ, ◌+◌, ◌<◌, ◌≤◌, ◌||◌, Bool, true, false, List, [], ◌∷◌, ◌++◌, length, get_or, take, None, Some, refl, sym, ◌∙◌, ap, subst, arith, zero, suc, length-append, append_assoc}
+use Rattle.std.proofs.Common.{◌≡◌, ℕ, ◌+◌, ◌<◌, ◌≤◌, true, false, List, [], ◌∷◌, ◌++◌, length, get_or, take, None, Some, refl, sym, ◌∙◌, ap, subst, arith, zero, suc, length-append, append_assoc}
 use Rattle.std.specs.Option.{option_map}
 use Rattle.std.specs.List.{AllByRecursion}
 use Rattle.std.proofs.lemmas.Int.{ints}
 use Rattle.literals.specs.declared.lit.Lit.{Lit}
 use Rattle.literals.specs.declared.lit.Lit.TheVariants.{Atom, Body, Constraint, AtMost, AtLeast}
-use Rattle.literals.specs.Lits.{IsLit, complement_of, same_lit}
-use Rattle.literals.specs.Nogoods.{has_lit}
-use Rattle.literals.proofs.LitLaws.{complement-complement, same_lit-equal}
+use Rattle.literals.specs.Lits.{IsLit, complement_of}
+use Rattle.literals.proofs.LitLaws.{complement-complement}
 use Rattle.trail.specs.declared.shape.Shape.{Shape}
 use Rattle.trail.specs.declared.entry.Entry.{Entry}
 use Rattle.trail.specs.declared.entry.Why.{Why}
@@ -16,6 +15,7 @@ use Rattle.trail.specs.declared.entry.Placed.{Placed}
 use Rattle.trail.specs.declared.entry.Placed.TheVariants.{Already, Clash, Done}
 use Rattle.trail.specs.Assignment.{Assignment, IsOf, Names, truth_on, is_true_on, lits_of, with_entry, entry_of, Places, IsAssignment, undone_to}
 use Rattle.trail.specs.Growth.{Grows}
+use Rattle.trail.specs.Forced.{AllButOpen}
 use Rattle.trail.proofs.ImpliedLaws.{open_is, truth-of}
 use Rattle.trail.proofs.GrowthLaws.{grows_one, grows_on, grows_shape, grows_entries, grows_length}
 use Rattle.trail.proofs.AssignmentLaws.{undone_front}
@@ -23,8 +23,9 @@ use Rattle.nogood_store.specs.declared.slot.Slot.{Slot}
 use Rattle.nogood_store.specs.declared.examine.Asks.{Asks}
 use Rattle.nogood_store.specs.declared.examine.Asks.TheVariants.{AllTrue, OneOpen, Nothing}
 use Rattle.nogood_store.specs.Holding.{Held, nogood_under, IsFront}
-use Rattle.nogood_store.specs.Propagation.{IsUnitAt, IsForced, IsConflict, IsQuiet, AllNamed, AsksFor}
+use Rattle.nogood_store.specs.Propagation.{IsForced, IsConflict, IsQuiet, AllNamed, AsksFor}
 use Rattle.nogood_store.specs.Kept.{held_at, held_of, SlotsAscend, IsStore, Settles}
+use Rattle.nogood_store.proofs.Members.{holds_contained}
 use Rattle.nogood_store.proofs.HeldLaws.{all_at, get_any, under_slots, place_found}
 
 -- where a literal is open, so is its opposite
@@ -43,18 +44,6 @@ of_opposite s (AtLeast x k) h = h
 pub names_opposite : (s : Shape) (l : Lit) → Names s l → IsLit (complement_of l) → Names s (complement_of l)
 names_opposite s l n h = record { literal = h; within = of_opposite s l n.within }
 
-clash : {X : Type 0} → true ≡ false → X
-clash h = cc
-
--- what holds of each literal of a list holds of one in it
-pub holds_of : (P : Lit → Type 0) (xs : List Lit) (l : Lit) → AllByRecursion P xs → has_lit xs l ≡ true → P l
-holds_of P [] l a h = clash (sym h)
-holds_of P (x ∷ xs) l a h = cases (same_lit x l) refl h (holds_of P xs l a.1)
-  where
-    cases : (b : Bool) → same_lit x l ≡ b → (b || has_lit xs l) ≡ true → (has_lit xs l ≡ true → P l) → P l
-    cases true e f rest = subst P (same_lit-equal x l e) a.0
-    cases false e f rest = rest f
-
 pub placed_done : (t new : Assignment) (l : Lit) (why : Why) (p : Placed) → Places t l why p new → truth_on t l ≡ None → new ≡ with_entry t (entry_of t l why)
 placed_done t new l why Already h e = let no : Some true ≡ None = sym h.0 ∙ e in cc
 placed_done t new l why Clash h e = let no : Some false ≡ None = sym h.0 ∙ e in cc
@@ -69,11 +58,11 @@ named_own s nogoods [] i d a h = absurd (omega arith)
 named_own s nogoods (r ∷ rs) zero d a h = a.0
 named_own s nogoods (r ∷ rs) (suc i) d a h = named_own s nogoods rs i d a.1 (omega arith)
 
-pub names_unit : (t : Assignment) (n : List Lit) (l : Lit) → AllByRecursion (Names t.shape) n → IsUnitAt t n l → Names t.shape l
-names_unit t n l a u = holds_of (Names t.shape) n l a u.among
+pub names_unit : (t : Assignment) (n : List Lit) (l : Lit) → AllByRecursion (Names t.shape) n → AllButOpen t n l → Names t.shape l
+names_unit t n l a u = holds_contained (Names t.shape) n l a u.among
 
 -- one nogood settled
-pub step_grows : (held : List Held) (old t new : Assignment) (id : ℕ) (n : List Lit) (a : Asks) → Grows (IsForced held) old t → nogood_under held id ≡ Some n → ((l : Lit) → IsUnitAt t n l → Names t.shape (complement_of l)) → AsksFor t n a → Settles id t new a → Grows (IsForced held) old new
+pub step_grows : (held : List Held) (old t new : Assignment) (id : ℕ) (n : List Lit) (a : Asks) → Grows (IsForced held) old t → nogood_under held id ≡ Some n → ((l : Lit) → AllButOpen t n l → Names t.shape (complement_of l)) → AsksFor t n a → Settles id t new a → Grows (IsForced held) old new
 step_grows held old t new id n AllTrue g there names asks e = subst (Grows (IsForced held) old) (sym e) g
 step_grows held old t new id n Nothing g there names asks e = subst (Grows (IsForced held) old) (sym e) g
 step_grows held old t new id n (OneOpen l) g there names asks e =
@@ -147,7 +136,7 @@ complement_named s (Constraint n b) h = record { literal = h.literal; within = h
 complement_named s (AtMost x k) h = record { literal = (h.literal.0, omega (arith, ints, h.literal.1), omega (arith, ints, h.literal.2)); within = h.within }
 complement_named s (AtLeast x k) h = record { literal = (h.literal.0, omega (arith, ints, h.literal.1), omega (arith, ints, h.literal.2)); within = h.within }
 
-pub unit_named : (t : Assignment) (n : List Lit) → AllByRecursion (Names t.shape) n → (l : Lit) → IsUnitAt t n l → Names t.shape (complement_of l)
+pub unit_named : (t : Assignment) (n : List Lit) → AllByRecursion (Names t.shape) n → (l : Lit) → AllButOpen t n l → Names t.shape (complement_of l)
 unit_named t n a l u = complement_named t.shape l (names_unit t n l a u)
 
 -- where the store has looked at nothing, that is the first of every trail

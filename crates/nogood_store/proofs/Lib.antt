@@ -1,3 +1,4 @@
+pub mod Members
 pub mod Asked
 pub mod HeldLaws
 pub mod Growing

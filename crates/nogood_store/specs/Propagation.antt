@@ -1,42 +1,32 @@
 -- What held nogoods force on a trail, and when they force nothing more.
-use Rattle.std.specs.Prelude.{◌≡◌, ℕ, true, false, List, None, Some}
-use Rattle.std.specs.List.{AllByRecursion, list_all}
+use Rattle.std.specs.Prelude.{◌≡◌, ℕ, List, Some}
+use Rattle.std.specs.List.{AllByRecursion}
 use Rattle.literals.specs.declared.lit.Lit.{Lit}
 use Rattle.literals.specs.Lits.{complement_of}
-use Rattle.literals.specs.Nogoods.{has_lit, without}
 use Rattle.trail.specs.declared.shape.Shape.{Shape}
 use Rattle.trail.specs.declared.entry.Entry.{Entry}
 use Rattle.trail.specs.declared.entry.Why.TheVariants.{Held as ByHeld}
-use Rattle.trail.specs.Assignment.{Assignment, Names, is_true_on, truth_on}
+use Rattle.trail.specs.Assignment.{Assignment, Names}
+use Rattle.trail.specs.Forced.{AllTrueOn, AllButOpen}
 use Rattle.nogood_store.specs.Holding.{Held, nogood_under}
 use Rattle.nogood_store.specs.declared.propagate.Unit.{Unit as Ended}
 use Rattle.nogood_store.specs.declared.propagate.Unit.TheVariants.{Quiet, Conflict}
 use Rattle.nogood_store.specs.declared.examine.Asks.{Asks}
 use Rattle.nogood_store.specs.declared.examine.Asks.TheVariants.{AllTrue, OneOpen, Nothing}
 
--- all of the literals are true on the trail
-abbrev pub AllTrueOn : Assignment → List Lit → Type 0
-AllTrueOn t lits = list_all (is_true_on t) lits ≡ true
-
--- the nogood is unit at the literal: it is open, and the others are true
-pub record IsUnitAt (t : Assignment) (lits : List Lit) (l : Lit) : Type 0 where
-  pub among : has_lit lits l ≡ true
-  pub others : AllTrueOn t (without lits l)
-  pub is_open : truth_on t l ≡ None
-
--- the nogood forces nothing: some literal is not true, and it is unit at none
+-- the nogood forces nothing: not all of its literals are true, nor all but one true and that one open
 pub record IsQuiet (t : Assignment) (lits : List Lit) : Type 0 where
-  pub not_met : list_all (is_true_on t) lits ≡ false
-  pub not_unit : (l : Lit) → IsUnitAt t lits l → ⊥
+  pub not_met : AllTrueOn t lits → ⊥
+  pub not_unit : (l : Lit) → AllButOpen t lits l → ⊥
 
--- the entry is the opposite of the literal at which the held nogood that it names is unit
+-- the entry is the opposite of the one literal that is open in the held nogood that it names, whose others are true
 pub record IsForced (held : List Held) (t : Assignment) (e : Entry) : Type 0 where
   pub id : ℕ
   pub nogood : List Lit
   pub lit : Lit
   pub why : e.why ≡ ByHeld id
   pub is_held : nogood_under held id ≡ Some nogood
-  pub unit : IsUnitAt t nogood lit
+  pub unit : AllButOpen t nogood lit
   pub opposite : e.lit ≡ complement_of lit
 
 -- a nogood is held under the id, and all of its literals are true
@@ -57,5 +47,5 @@ AllNamed s held = AllByRecursion (λ h. AllByRecursion (Names s) h.nogood) held
 -- what one nogood asks for
 abbrev pub AsksFor : Assignment → List Lit → Asks → Type 0
 AsksFor t lits AllTrue = AllTrueOn t lits
-AsksFor t lits (OneOpen l) = IsUnitAt t lits l
+AsksFor t lits (OneOpen l) = AllButOpen t lits l
 AsksFor t lits Nothing = IsQuiet t lits
