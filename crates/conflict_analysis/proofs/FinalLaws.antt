@@ -8,9 +8,10 @@ use Rattle.literals.specs.declared.lit.Lit.{Lit}
 use Rattle.literals.specs.Lits.{IsLit, same_lit}
 use Rattle.literals.specs.Nogoods.{Rises, canonical, has_lit, without}
 use Rattle.literals.proofs.LitLaws.{same_refl, same_lit-equal}
-use Rattle.trail.specs.Assignment.{Assignment, IsAssignment, Names, is_true_on, since_on}
+use Rattle.trail.specs.Assignment.{Assignment, IsAssignment, Names, since_on}
+use Rattle.trail.specs.Forced.{AllTrueOn}
 use Rattle.nogood_store.specs.Holding.{Held}
-use Rattle.nogood_store.proofs.Growing.{holds_of}
+use Rattle.nogood_store.proofs.Members.{holds_of, contains-has, has-contains}
 use Rattle.conflict_analysis.specs.declared.learned.Start.{Start}
 use Rattle.conflict_analysis.specs.declared.learned.Link.{Link}
 use Rattle.conflict_analysis.specs.declared.marks.Mark.{Mark}
@@ -276,10 +277,10 @@ pub clear_count : (t : Assignment) (high : ℕ) (ms : List Mark) → ((i : ℕ) 
 clear_count t high [] f = refl
 clear_count t high (m ∷ ms) f = ap (λ k. high_one t high k + 0) (sym (f 0)) ∙ ap (λ k. high_one t high m + k) (clear_count t high ms (λ i. f (suc i)))
 
-start_each : (t : Assignment) (high : ℕ) (n : List Lit) → IsAssignment t → AllByRecursion (Names t.shape) n → AllByRecursion (λ l. is_true_on t l ≡ true) n → high ≡ highest t n → AllByRecursion (IsPending t high (length t.entries)) n
+start_each : (t : Assignment) (high : ℕ) (n : List Lit) → IsAssignment t → AllByRecursion (Names t.shape) n → AllTrueOn t n → high ≡ highest t n → AllByRecursion (IsPending t high (length t.entries)) n
 start_each t high n a named true_ e = all_of_has (IsPending t high (length t.entries)) n (λ l h. record {
   named = holds_of (Names t.shape) n l named h;
-  is_true = holds_of (λ x. is_true_on t x ≡ true) n l true_ h;
+  is_true = true_ l (contains-has n l h);
   before = early l (since_on t l) refl;
   low = subst (λ k. level_on t l ≤ k) (sym e) (level_highest t n l h);
 })
@@ -330,7 +331,7 @@ start_some t high at n b p e above =
 
 -- the run begins
 pub start_run : (held : List Held) (t : Assignment) (first : Start) (chain : List Link) (high count : ℕ) (n lits : List Lit) (b new : Board)
-    → IsAssignment t → chain ≡ [] → nogood_of held first ≡ Some n → AllByRecursion (Names t.shape) n → AllByRecursion (λ l. is_true_on t l ≡ true) n
+    → IsAssignment t → chain ≡ [] → nogood_of held first ≡ Some n → AllByRecursion (Names t.shape) n → AllTrueOn t n
     → lits ≡ n → Rises lits → high ≡ highest t lits → Fits t.shape b → IsClear b → new ≡ boards_with t b lits → count ≡ high_count t high new.marks
     → Runs held t first chain high (length t.entries) new count
 start_run held t first chain high count n lits b new a empty there named true_ same rises highest_is fits clear board counted =
@@ -356,7 +357,7 @@ pub record IsLearned (held : List Held) (t : Assignment) (start : Start) (chain 
   pub replays : replayed held start chain ≡ Some nogood
   pub differ : PivotsDiffer chain
   pub named : AllByRecursion (Names t.shape) nogood
-  pub all_true : AllByRecursion (λ l. is_true_on t l ≡ true) nogood
+  pub all_true : AllTrueOn t nogood
   pub asserts : (nogood ≡ []) ⊎ IsAsserting t nogood (highest_but t high nogood)
   pub empty : high ≡ 0 → nogood ≡ []
 
@@ -393,7 +394,7 @@ learned held t start chain after high b new kept nogood e left clear same = case
       replays = d.1.replays;
       differ = d.1.differ;
       named = all_of_has (Names t.shape) d.0 (λ x h. (d.1.named x h).0);
-      all_true = all_of_has (λ l. is_true_on t l ≡ true) d.0 (λ x h. (d.1.named x h).1);
+      all_true = λ x c. (d.1.named x (has-contains d.0 x c)).1;
       asserts = asserts;
       empty = empty;
     })

@@ -1,11 +1,11 @@
 -- Trails stay justified as they grow by decisions and by what held nogoods force.
-use Rattle.std.proofs.Common.{◌≡◌, ℕ, ◌+◌, ◌<◌, ◌≤◌, ◌==◌, ◌&&◌, Bool, true, false, cond, List, [], ◌∷◌, ◌++◌, Some, refl, sym, ◌∙◌, ap, subst, arith, append_assoc, append-nil}
-use Rattle.std.specs.List.{All, AllByRecursion, list_all}
+use Rattle.std.proofs.Common.{◌≡◌, ℕ, ◌+◌, ◌<◌, ◌≤◌, ◌==◌, Bool, true, false, cond, List, [], ◌∷◌, ◌++◌, Some, sym, subst, arith, append_assoc, append-nil}
+use Rattle.std.specs.List.{All, AllByRecursion, Contains}
 use Rattle.std.proofs.lemmas.List.Elements.{recursion_from_All}
 use Rattle.literals.proofs.Puts.{all_joined}
 use Rattle.literals.specs.declared.lit.Lit.{Lit}
 use Rattle.literals.specs.Lits.{IsLit, complement_of}
-use Rattle.literals.specs.Nogoods.{canonical, has_lit, without}
+use Rattle.literals.specs.Nogoods.{canonical}
 use Rattle.literals.proofs.LitLaws.{complement-complement}
 use Rattle.trail.specs.declared.shape.Shape.{Shape}
 use Rattle.trail.specs.declared.entry.Entry.{Entry}
@@ -13,7 +13,8 @@ use Rattle.trail.specs.declared.entry.Why.{Why}
 use Rattle.trail.specs.declared.entry.Why.TheVariants.{Decision}
 use Rattle.trail.specs.declared.entry.Placed.{Placed}
 use Rattle.trail.specs.declared.entry.Placed.TheVariants.{Already, Clash, Done}
-use Rattle.trail.specs.Assignment.{Assignment, Names, Follow, IsAssignment, Places, with_entry, entry_of, lits_of, is_true_on}
+use Rattle.trail.specs.Assignment.{Assignment, Names, Follow, IsAssignment, Places, with_entry, entry_of}
+use Rattle.trail.specs.Forced.{OthersTrueOn, AllButOpen, Forces}
 use Rattle.trail.specs.Growth.{Grows, EachNext, with_entries}
 use Rattle.trail.proofs.KeptLaws.{follow_low}
 use Rattle.nogood_store.specs.Holding.{Held, nogood_under, numbered_from}
@@ -38,27 +39,22 @@ named_under s (h ∷ hs) id n a e = cases (h.id == id) e (named_under s hs id n 
     cases true f rest = let same : h.nogood ≡ n = cc in subst (AllByRecursion (Names s)) same a.0
     cases false f rest = rest f
 
-each_true : (p : Lit → Bool) (ls : List Lit) → list_all p ls ≡ true → AllByRecursion (λ l. p l ≡ true) ls
-each_true p [] h = tt
-each_true p (l ∷ ls) h = cases (p l) refl h (each_true p ls)
-  where
-    cases : (b : Bool) → p l ≡ b → (b && list_all p ls) ≡ true → (list_all p ls ≡ true → AllByRecursion (λ m. p m ≡ true) ls) → (p l ≡ true) × AllByRecursion (λ m. p m ≡ true) ls
-    cases true e f rest = (e, rest f)
-    cases false e f rest = cc
+-- what a nogood of the shape forces has it for its reason
+pub forces_reason : (t : Assignment) (l : Lit) (nogood : List Lit) → AllByRecursion (Names t.shape) nogood → Forces t nogood l → IsReasonFor t.shape t.entries l nogood
+forces_reason t l nogood named f = record { named = named; forces = record { opposite = f.opposite; others = f.others } }
+
+-- a list whose one open literal this is, and whose others are true, forces its opposite
+pub open_forces : (t : Assignment) (nogood : List Lit) (l : Lit) → AllButOpen t nogood l → Forces t nogood (complement_of l)
+open_forces t nogood l u = record {
+  opposite = subst (Contains nogood) (sym (complement-complement l)) u.among;
+  others = subst (λ (q : Lit). OthersTrueOn t nogood q) (sym (complement-complement l)) u.others;
+}
 
 -- what a held nogood forces has it for its reason
 pub forced_stands : (held : List Held) (t : Assignment) (e : Entry) → AllNamed t.shape held → IsForced held t e → Stands t.shape held t.entries e e.why
-forced_stands held t e a f = subst (λ (w : Why). Stands t.shape held t.entries e w) (sym f.why) (f.nogood, f.is_held, reason)
-  where
-    back : f.lit ≡ complement_of e.lit
-    back = sym (complement-complement f.lit) ∙ ap complement_of (sym f.opposite)
-
-    reason : IsReasonFor t.shape (lits_of t.entries) e.lit f.nogood
-    reason = record {
-      named = named_under t.shape held f.id f.nogood a f.is_held;
-      has = ap (has_lit f.nogood) (sym back) ∙ f.unit.among;
-      others = subst (λ (q : Lit). AllByRecursion (λ m. is_true_on t m ≡ true) (without f.nogood q)) back (each_true (is_true_on t) (without f.nogood f.lit) f.unit.others);
-    }
+forced_stands held t e a f =
+    subst (λ (w : Why). Stands t.shape held t.entries e w) (sym f.why)
+    (f.nogood, f.is_held, forces_reason t e.lit f.nogood (named_under t.shape held f.id f.nogood a f.is_held) (subst (Forces t f.nogood) (sym f.opposite) (open_forces t f.nogood f.lit f.unit)))
 
 justified_each : (held : List Held) (t : Assignment) (es : List Entry) → AllNamed t.shape held → IsJustified held t → EachNext (IsForced held) t es → IsJustified held (with_entries t es)
 justified_each held t [] a j n = j
@@ -88,7 +84,7 @@ justified_decision held t opened new l p a j o h =
 
 -- what unit propagation answers with is a start
 pub conflict_starts : (held : List Held) (t : Assignment) (id : ℕ) → AllNamed t.shape held → IsConflict held t id → IsConflicting held t (FromHeld id)
-conflict_starts held t id a c = (c.nogood, c.is_held, named_under t.shape held id c.nogood a c.is_held, each_true (is_true_on t) c.nogood c.all_true)
+conflict_starts held t id a c = (c.nogood, c.is_held, named_under t.shape held id c.nogood a c.is_held, c.all_true)
 
 -- nogoods of the shape's literals, held
 pub numbered_named : (s : Shape) (first second : List Lit) → All (Names s) first → All (Names s) second → AllNamed s (numbered_from 1 (canonical first ∷ canonical second ∷ []))

@@ -13,7 +13,7 @@ use Rattle.trail.specs.declared.shape.Shape.{Shape}
 use Rattle.trail.specs.declared.entry.Entry.{Entry}
 use Rattle.trail.specs.declared.entry.Why.TheVariants.{Decision}
 use Rattle.trail.specs.Assignment.{Assignment, IsAssignment, IsOf, since_on}
-use Rattle.nogood_store.proofs.Growing.{holds_of}
+use Rattle.nogood_store.proofs.Members.{holds_of}
 use Rattle.conflict_analysis.specs.declared.marks.Mark.{Mark}
 use Rattle.conflict_analysis.specs.declared.marks.Mark.TheVariants.{Clear, ByEnds, ByEntry}
 use Rattle.conflict_analysis.specs.Marked.{Board, Fits, place_of, mark_of, mark_at, marked_with, unmarked, marked_lit, IsMark, IsBefore, IsPending, Pends, standing}

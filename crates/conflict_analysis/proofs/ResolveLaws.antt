@@ -1,27 +1,27 @@
 -- One resolution of an analysis.
-use Rattle.std.proofs.Common.{◌≡◌, ℕ, zero, suc, ◌+◌, ◌<◌, ◌≤◌, inl, Bool, true, false, cond, List, [], ◌∷◌, ◌++◌, length, get_or, set, take, slice_get, Option, None, Some, refl, sym, ◌∙◌, ap, subst, arith}
+use Rattle.std.proofs.Common.{◌≡◌, ℕ, zero, suc, ◌+◌, ◌<◌, ◌≤◌, ◌⊎◌, inl, inr, Bool, true, false, cond, List, [], ◌∷◌, ◌++◌, length, get_or, set, take, slice_get, Option, None, Some, refl, sym, ◌∙◌, ap, subst, arith}
 use Rattle.std.specs.List.{AllByRecursion, Contains}
 use Rattle.std.proofs.lemmas.Bool.Decides.{nat_tests}
 use Rattle.std.proofs.lemmas.Option.{slice_get_within, get_or_from_slice_get}
 use Rattle.literals.specs.declared.lit.Lit.{Lit}
 use Rattle.literals.specs.Lits.{implies_lit, same_lit, complement_of}
 use Rattle.literals.specs.Nogoods.{same_place, Rises, put_lit, joined, has_lit, without, answers, resolvent}
-use Rattle.literals.proofs.LitLaws.{same_lit-equal, complement-complement}
+use Rattle.literals.proofs.LitLaws.{same_refl, same_lit-equal, complement-complement}
 use Rattle.literals.proofs.OrderLaws.{implies_other}
 use Rattle.trail.specs.declared.shape.Shape.{Shape}
 use Rattle.trail.specs.declared.entry.Entry.{Entry}
 use Rattle.trail.specs.declared.entry.Why.{Why}
 use Rattle.trail.specs.declared.entry.Why.TheVariants.{Decision, Held as ByHeld, Shown as ByShown}
 use Rattle.trail.specs.Implied.{implied}
-use Rattle.trail.specs.Assignment.{Assignment, IsAssignment, Names, lits_of, since_on}
+use Rattle.trail.specs.Assignment.{Assignment, IsAssignment, Names, lits_of, is_true_on, since_on}
 use Rattle.trail.proofs.ImpliedLaws.{fold-push}
 use Rattle.nogood_store.specs.Holding.{Held}
-use Rattle.nogood_store.proofs.Growing.{holds_of}
+use Rattle.nogood_store.proofs.Members.{holds_of, contains-has, has-contains}
 use Rattle.conflict_analysis.specs.declared.learned.Start.{Start}
 use Rattle.conflict_analysis.specs.declared.learned.Link.{Link}
 use Rattle.conflict_analysis.specs.declared.marks.Mark.{Mark}
 use Rattle.conflict_analysis.specs.declared.marks.Mark.TheVariants.{Clear, ByEnds, ByEntry}
-use Rattle.conflict_analysis.specs.Justified.{IsReasonFor, Stands, IsJustified}
+use Rattle.conflict_analysis.specs.Justified.{trail_of, IsReasonFor, Stands, IsJustified}
 use Rattle.conflict_analysis.specs.Levels.{level_at, level_on, level_since}
 use Rattle.conflict_analysis.specs.Chains.{nogood_of, linked, resolved_at, replayed, IsUsable, PivotsDiffer}
 use Rattle.conflict_analysis.specs.Marked.{Board, place_of, mark_of, mark_at, unmarked, marked_lit, is_high, high_one, high_count, IsMark, IsBefore, IsPending, Pends, standing}
@@ -45,16 +45,14 @@ stands_there held t i e j h =
     let within : i < length t.entries = slice_get_within t.entries i e h in
     subst (λ (x : Entry). Stands t.shape held (take i t.entries) x x.why) (get_or_from_slice_get t.entries i e e h) (stands_at held t i e j within)
 
-reason_by : (s : Shape) (held : List Held) (before : List Entry) (e : Entry) (w : Why) → Stands s held before e w → (w ≡ Decision → ⊥) → (n : List Lit) × (nogood_by held w ≡ Some n) × IsReasonFor s (lits_of before) e.lit n
+reason_by : (s : Shape) (held : List Held) (before : List Entry) (e : Entry) (w : Why) → Stands s held before e w → (w ≡ Decision → ⊥) → (n : List Lit) × (nogood_by held w ≡ Some n) × IsReasonFor s before e.lit n
 reason_by s held before e Decision st ne = absurd (ne refl)
 reason_by s held before e (ByHeld id) st ne = (st.0, st.1, st.2)
 reason_by s held before e (ByShown r) st ne = (r.nogood, refl, st)
 
 -- the reason of the entry at a place
-pub reason_at : (held : List Held) (t : Assignment) (i : ℕ) (e : Entry) → IsJustified held t → slice_get t.entries i ≡ Some e → (e.why ≡ Decision → ⊥) → (n : List Lit) × (nogood_by held e.why ≡ Some n) × IsReasonFor t.shape (take i (lits_of t.entries)) e.lit n
-reason_at held t i e j h ne =
-    let r = reason_by t.shape held (take i t.entries) e e.why (stands_there held t i e j h) ne in
-    (r.0, r.1, subst (λ (ls : List Lit). IsReasonFor t.shape ls e.lit r.0) (lits_take t.entries i) r.2)
+pub reason_at : (held : List Held) (t : Assignment) (i : ℕ) (e : Entry) → IsJustified held t → slice_get t.entries i ≡ Some e → (e.why ≡ Decision → ⊥) → (n : List Lit) × (nogood_by held e.why ≡ Some n) × IsReasonFor t.shape (take i t.entries) e.lit n
+reason_at held t i e j h ne = reason_by t.shape held (take i t.entries) e e.why (stands_there held t i e j h) ne
 
 contains_at : (es : List Entry) (i : ℕ) (e : Entry) → slice_get es i ≡ Some e → Contains es e
 contains_at es i e h = (i, slice_get_within es i e h, get_or_from_slice_get es i e e h)
@@ -194,7 +192,7 @@ all_grow t high at lits (l ∷ ls) b a p n =
     omega arith
 
 -- the other literals of a reason are pending before the entry
-pub reason_pends : (t : Assignment) (high at place : ℕ) (e : Entry) (n : List Lit) → IsAssignment t → slice_get t.entries place ≡ Some e → e.level ≤ high → IsReasonFor t.shape (take place (lits_of t.entries)) e.lit n → AllByRecursion (IsPending t high place) (without n (complement_of e.lit))
+pub reason_pends : (t : Assignment) (high at place : ℕ) (e : Entry) (n : List Lit) → IsAssignment t → slice_get t.entries place ≡ Some e → e.level ≤ high → IsReasonFor t.shape (take place t.entries) e.lit n → AllByRecursion (IsPending t high place) (without n (complement_of e.lit))
 reason_pends t high at place e n a there low r = all_of_has (IsPending t high place) (without n (complement_of e.lit)) each
   where
     level : (m : Lit) → IsBefore place (since_on t m) → level_on t m ≤ high
@@ -208,10 +206,14 @@ reason_pends t high at place e n a there low r = all_of_has (IsPending t high pl
             let here : e.level ≡ level_at t.entries place = level_read t.entries place e there in
             omega arith
 
+    other : (m : Lit) → same_lit m (complement_of e.lit) ≡ false → (m ≡ complement_of e.lit) ⊎ (is_true_on (trail_of t.shape (take place t.entries)) m ≡ true) → implied t.shape.ends (lits_of (take place t.entries)) m ≡ true
+    other m apart (inl same) = clash (sym (ap (λ q. same_lit q (complement_of e.lit)) same ∙ same_refl (complement_of e.lit)) ∙ apart)
+    other m apart (inr on) = on
+
     each : (m : Lit) → has_lit (without n (complement_of e.lit)) m ≡ true → IsPending t high place m
     each m h =
         let both = has_without n (complement_of e.lit) m h in
-        let implied_before : implied t.shape.ends (take place (lits_of t.entries)) m ≡ true = holds_of (λ x. implied t.shape.ends (take place (lits_of t.entries)) x ≡ true) (without n (complement_of e.lit)) m r.others h in
+        let implied_before : implied t.shape.ends (take place (lits_of t.entries)) m ≡ true = subst (λ (ls : List Lit). implied t.shape.ends ls m ≡ true) (lits_take t.entries place) (other m both.1 (r.forces.others m (contains-has n m both.0))) in
         let before : IsBefore place (since_on t m) = before_since t m place implied_before in
         record {
           named = holds_of (Names t.shape) n m r.named both.0;
@@ -259,7 +261,7 @@ answers_own e p h = ap (λ x. implies_lit x p) (complement-complement e) ∙ h
 -- the run once the last literal is resolved away
 pub resolved_run : (held : List Held) (t : Assignment) (first : Start) (chain : List Link) (high at : ℕ) (b new : Board) (count after : ℕ) (lits : List Lit) (place : ℕ) (l : Lit) (used : Start) (n : List Lit) (e : Entry)
     → IsAssignment t → Run held t first chain high at b count lits → IsLast t b at place l → (0 < high → count ≡ 1 → ⊥)
-    → slice_get t.entries place ≡ Some e → IsReasonFor t.shape (take place (lits_of t.entries)) e.lit n → nogood_by held e.why ≡ Some n → Rises n → IsFrom e.why used
+    → slice_get t.entries place ≡ Some e → IsReasonFor t.shape (take place t.entries) e.lit n → nogood_by held e.why ≡ Some n → Rises n → IsFrom e.why used
     → new ≡ boards_with t (unmarked b l) (without n (complement_of e.lit)) → after ≡ high_count t high new.marks
     → Run held t first (chain ++ record { pivot = l; used = used } ∷ []) high place new after (joined (without lits l) (without n (complement_of e.lit)))
 resolved_run held t first chain high at b new count after lits place l used n e a run last two there reason by rises from board counted =
@@ -276,7 +278,7 @@ resolved_run held t first chain high at b new count after lits place l used n e 
     let use_ = usable held t e e.why used n (contains_at t.entries place e there) refl from by in
     record {
       pends = subst (Pends t high place (joined (without lits l) (without n (complement_of e.lit)))) (sym board) (pends_all t high place (without lits l) (without n (complement_of e.lit)) (unmarked b l) fewer mores);
-      replays = replayed_push held first chain (record { pivot = l; used = used }) lits n (joined (without lits l) (without n (complement_of e.lit))) run.replays use_.1 (resolvent_at lits n l (complement_of e.lit) has rises reason.has (answers_own e.lit l own));
+      replays = replayed_push held first chain (record { pivot = l; used = used }) lits n (joined (without lits l) (without n (complement_of e.lit))) run.replays use_.1 (resolvent_at lits n l (complement_of e.lit) has rises (has-contains n (complement_of e.lit) reason.forces.opposite) (answers_own e.lit l own));
       used = all_push (λ k. IsUsable held t k.used) chain (record { pivot = l; used = used }) run.used use_.0;
       count = counted;
       some = some_left fewer mores pending;
@@ -328,7 +330,7 @@ ready_place held t first chain high place l b count a r =
 
 pub ready_run : (held : List Held) (t : Assignment) (first : Start) (chain after_chain : List Link) (high place : ℕ) (l : Lit) (b new : Board) (count after : ℕ) (e : Entry) (n lits : List Lit) (q : Lit) (used : Start)
     → IsAssignment t → IsReady held t first chain high place l b count → (0 < high → count ≡ 1 → ⊥)
-    → slice_get t.entries place ≡ Some e → IsReasonFor t.shape (take place (lits_of t.entries)) e.lit n → nogood_by held e.why ≡ Some n → lits ≡ n → Rises lits → q ≡ complement_of e.lit → IsFrom e.why used
+    → slice_get t.entries place ≡ Some e → IsReasonFor t.shape (take place t.entries) e.lit n → nogood_by held e.why ≡ Some n → lits ≡ n → Rises lits → q ≡ complement_of e.lit → IsFrom e.why used
     → new ≡ boards_with t (unmarked b l) (without lits q) → after ≡ high_count t high new.marks → after_chain ≡ chain ++ record { pivot = l; used = used } ∷ []
     → Runs held t first after_chain high place new after
 ready_run held t first chain after_chain high place l b new count after e n lits q used a r two there reason by same rises out from board counted pushed =

@@ -11,7 +11,7 @@ use Rattle.literals.proofs.OrderLaws.{before_apart, before_other, same_trans, sa
 use Rattle.literals.proofs.LitLaws.{same_refl, same_lit-equal}
 use Rattle.literals.proofs.Puts.{put_behind, put_same, put_front, all_put, all_joined, rises_joined, rises_canonical}
 use Rattle.literals.proofs.SameLaws.{same_nogood}
-use Rattle.nogood_store.proofs.Growing.{holds_of}
+use Rattle.nogood_store.proofs.Members.{holds_of}
 use Rattle.conflict_analysis.specs.Marked.{standing}
 
 clash : {X : Type 0} → true ≡ false → X

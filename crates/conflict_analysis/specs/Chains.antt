@@ -9,7 +9,8 @@ use Rattle.literals.specs.Nogoods.{resolvent}
 use Rattle.trail.specs.declared.entry.Entry.{Entry}
 use Rattle.trail.specs.declared.entry.Why.TheVariants.{Shown as ByShown}
 use Rattle.trail.specs.Implied.{ends_imply}
-use Rattle.trail.specs.Assignment.{Assignment, Names, is_true_on}
+use Rattle.trail.specs.Assignment.{Assignment, Names}
+use Rattle.trail.specs.Forced.{AllTrueOn}
 use Rattle.nogood_store.specs.Holding.{Held, nogood_under}
 use Rattle.conflict_analysis.specs.declared.learned.Start.{Start}
 use Rattle.conflict_analysis.specs.declared.learned.Start.TheVariants.{Held as FromHeld, Shown as FromShown}
@@ -56,4 +57,4 @@ PivotsDiffer (k ∷ ks) = AllByRecursion (λ j. same_lit k.pivot j.pivot ≡ fal
 
 -- the start has literals of the shape, and all of them are true
 abbrev pub IsConflicting : List Held → Assignment → Start → Type 0
-IsConflicting held t start = (n : List Lit) × (nogood_of held start ≡ Some n) × AllByRecursion (Names t.shape) n × AllByRecursion (λ l. is_true_on t l ≡ true) n
+IsConflicting held t start = (n : List Lit) × (nogood_of held start ≡ Some n) × AllByRecursion (Names t.shape) n × AllTrueOn t n

@@ -1,8 +1,8 @@
 // From a conflict to the nogood that says why.
-ghost use Rattle.std.specs.Prelude.{◌≡◌, ◌⊎◌, ℕ, true, [], List, Some, IfOk};
+ghost use Rattle.std.specs.Prelude.{◌≡◌, ◌⊎◌, ℕ, [], List, Some, IfOk};
 ghost use Rattle.std.specs.List.{AllByRecursion};
 ghost use Rattle.literals.specs.declared.lit.Lit.{Lit};
-ghost use Rattle.trail.specs.Assignment.{is_true_on};
+ghost use Rattle.trail.specs.Forced.{AllTrueOn};
 ghost use Rattle.conflict_analysis.specs.Justified.{IsJustified};
 ghost use Rattle.conflict_analysis.specs.Levels as level;
 ghost use Rattle.conflict_analysis.specs.Levels.{IsAsserting};
@@ -66,7 +66,7 @@ pub fn analyse(
     ensures used { IfOk result (λ l. AllByRecursion (λ k. IsUsable store.now.held trail.now k.used) l.chain) }
     ensures replays { IfOk result (λ l. replayed store.now.held start l.chain ≡ Some l.nogood) }
     ensures once { IfOk result (λ l. PivotsDiffer l.chain) }
-    ensures all_true { IfOk result (λ l. AllByRecursion (λ m. is_true_on trail.now m ≡ true) l.nogood) }
+    ensures all_true { IfOk result (λ l. AllTrueOn trail.now l.nogood) }
     ensures asserting { IfOk result (λ l. (l.nogood ≡ []) ⊎ IsAsserting trail.now l.nogood l.level) }
     ensures lowest { IfOk result (λ l. l.nogood ≡ [] → l.level ≡ 0) }
     ensures empty { IfOk result (λ l. (n : List Lit) → nogood_of store.now.held start ≡ Some n → level.highest trail.now n ≡ 0 → l.nogood ≡ []) }
