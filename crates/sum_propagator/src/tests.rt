@@ -14,16 +14,16 @@ use std::test::Fail;
 use symbols::{Ends, Listed};
 use trail::{Entry, Shape, Trail, Why};
 
-// Three constraints and three variables.
+// Nine constraints and nine variables.
 fn shape_of(ends: Ends) -> Shape
-    ensures constraints { result.constraints ≡ 3 }
-    ensures variables { result.variables ≡ 3 }
+    ensures constraints { result.constraints ≡ 9 }
+    ensures variables { result.variables ≡ 9 }
 {
     Shape {
         atoms: 0,
         bodies: 0,
-        constraints: 3,
-        variables: 3,
+        constraints: 9,
+        variables: 9,
         ends,
     }
 }
@@ -178,7 +178,7 @@ fn work(
     lits: &[Lit],
 ) -> Result<([char; 3], Vec<Lit>), Fail>
     requires items { IsTrue (are_items 1 items.now) }
-    requires fits { (s : Shape) → s.constraints ≡ 3 → s.variables ≡ 3 → IsTrue (fits_sum 1 items.now s) }
+    requires fits { (s : Shape) → s.constraints ≡ 9 → s.variables ≡ 9 → IsTrue (fits_sum 1 items.now s) }
 {
     let mut trail = Trail::new(alloc, shape_of(ends))?;
     let mut sum = start(alloc, &trail, items, most)?;
@@ -193,6 +193,7 @@ fn work(
 enum Move {
     Open,
     Set(Lit),
+    Both(Lit, Lit),
     Back(usize),
 }
 
@@ -210,6 +211,10 @@ fn make(one: Move, sum: &mut SumPropagator, trail: &mut Trail) -> Result<(), Fai
             Err(_) => Err(Fail::new("memory")),
         },
         Move::Set(lit) => put(sum, trail, lit),
+        Move::Both(one, other) => {
+            put(sum, trail, one)?;
+            put(sum, trail, other)
+        }
         Move::Back(level) => back(sum, trail, level),
     }
 }
@@ -263,7 +268,7 @@ fn walk(
     moves: &[Move],
 ) -> Result<Vec<Lit>, Fail>
     requires items { IsTrue (are_items 1 items.now) }
-    requires fits { (s : Shape) → s.constraints ≡ 3 → s.variables ≡ 3 → IsTrue (fits_sum 1 items.now s) }
+    requires fits { (s : Shape) → s.constraints ≡ 9 → s.variables ≡ 9 → IsTrue (fits_sum 1 items.now s) }
 {
     let mut trail = Trail::new(alloc, shape_of(ends))?;
     let mut sum = start(alloc, &trail, items, most)?;
@@ -463,6 +468,163 @@ fn three_levels_and_back(rt: HostRuntime) -> Result<(), Fail> {
         Lit::Constraint(1, true),
         Lit::AtLeast(1, 9),
         Lit::AtMost(2, 5),
+    ];
+    assert_eq!(rt; told.as_slice(), wanted.as_slice());
+    Ok(())
+}
+
+// Seventeen items by rising numbers: with two new entries or fewer the totals move with the entries.
+fn seventeen_items() -> [Item; 17]
+    ensures items { IsTrue (are_items 1 result) }
+    ensures fits { (s : Shape) → s.constraints ≡ 9 → s.variables ≡ 9 → IsTrue (fits_sum 1 result s) }
+{
+    [
+        Item::Value(1, 1),
+        Item::Value(2, -1),
+        Item::Truth(2, 6),
+        Item::Value(3, 1),
+        Item::Truth(3, -6),
+        Item::Value(4, -1),
+        Item::Truth(4, 5),
+        Item::Value(5, 3),
+        Item::Truth(5, -5),
+        Item::Value(6, -1),
+        Item::Truth(6, 4),
+        Item::Value(7, 1),
+        Item::Truth(7, -4),
+        Item::Value(8, -1),
+        Item::Truth(8, 2),
+        Item::Value(9, 2),
+        Item::Truth(9, -2),
+    ]
+}
+
+// An open sum becomes true, is narrowed at three levels by values and truths, and at last becomes false.
+#[test]
+fn totals_move_with_entries(rt: HostRuntime) -> Result<(), Fail> {
+    let items = seventeen_items();
+    let ends = Ends { min: 0, max: 9 };
+    let moves = [
+        Move::Set(Lit::AtMost(2, 5)),
+        Move::Open,
+        Move::Set(Lit::Constraint(1, true)),
+        Move::Open,
+        Move::Set(Lit::AtLeast(1, 3)),
+        Move::Open,
+        Move::Set(Lit::Constraint(7, false)),
+        Move::Back(2),
+        Move::Set(Lit::AtMost(4, 7)),
+        Move::Back(1),
+        Move::Set(Lit::AtLeast(9, 2)),
+        Move::Back(0),
+        Move::Set(Lit::AtLeast(9, 9)),
+        Move::Set(Lit::AtLeast(1, 5)),
+    ];
+    let told = walk(rt.alloc(), ends, &items, -27, &moves)?;
+    let wanted = [
+        Lit::AtMost(5, 7),
+        Lit::Constraint(1, true),
+        Lit::AtMost(2, 5),
+        Lit::AtLeast(5, 8),
+        Lit::AtMost(5, 6),
+        Lit::Constraint(1, true),
+        Lit::AtLeast(1, 3),
+        Lit::AtMost(2, 5),
+        Lit::AtLeast(5, 7),
+        Lit::AtMost(5, 5),
+        Lit::Constraint(1, true),
+        Lit::Constraint(7, false),
+        Lit::AtLeast(1, 3),
+        Lit::AtMost(2, 5),
+        Lit::AtLeast(5, 6),
+        Lit::AtMost(9, 7),
+        Lit::Constraint(1, true),
+        Lit::Constraint(7, false),
+        Lit::AtLeast(1, 3),
+        Lit::AtMost(2, 5),
+        Lit::AtLeast(9, 8),
+        Lit::AtMost(5, 5),
+        Lit::Constraint(1, true),
+        Lit::AtLeast(1, 3),
+        Lit::AtMost(2, 5),
+        Lit::AtMost(4, 7),
+        Lit::AtLeast(5, 6),
+        Lit::AtMost(9, 8),
+        Lit::Constraint(1, true),
+        Lit::AtLeast(1, 3),
+        Lit::AtMost(2, 5),
+        Lit::AtMost(4, 7),
+        Lit::AtLeast(9, 9),
+        Lit::AtMost(5, 6),
+        Lit::Constraint(1, true),
+        Lit::AtMost(2, 5),
+        Lit::AtLeast(5, 7),
+        Lit::AtLeast(9, 2),
+        Lit::Constraint(1, false),
+        Lit::Constraint(1, true),
+        Lit::AtLeast(1, 5),
+        Lit::AtMost(2, 5),
+        Lit::AtLeast(9, 9),
+    ];
+    assert_eq!(rt; told.as_slice(), wanted.as_slice());
+    Ok(())
+}
+
+// A false sum, to which two entries that are new at once are a conflict.
+#[test]
+fn moved_totals_are_a_conflict(rt: HostRuntime) -> Result<(), Fail> {
+    let items = seventeen_items();
+    let ends = Ends { min: 0, max: 9 };
+    let moves = [
+        Move::Set(Lit::Constraint(1, false)),
+        Move::Open,
+        Move::Set(Lit::AtMost(1, 4)),
+        Move::Open,
+        Move::Set(Lit::Constraint(2, false)),
+        Move::Open,
+        Move::Both(Lit::AtMost(3, 0), Lit::AtMost(7, 1)),
+        Move::Back(1),
+        Move::Set(Lit::AtLeast(2, 2)),
+    ];
+    let told = walk(rt.alloc(), ends, &items, 62, &moves)?;
+    let wanted = [
+        Lit::AtLeast(5, 1),
+        Lit::Constraint(1, false),
+        Lit::AtMost(5, 0),
+        Lit::AtLeast(5, 2),
+        Lit::Constraint(1, false),
+        Lit::AtMost(1, 4),
+        Lit::AtMost(5, 1),
+        Lit::AtLeast(5, 4),
+        Lit::Constraint(1, false),
+        Lit::Constraint(2, false),
+        Lit::AtMost(1, 4),
+        Lit::AtMost(5, 3),
+        Lit::AtLeast(9, 2),
+        Lit::Constraint(1, false),
+        Lit::Constraint(2, false),
+        Lit::AtMost(1, 4),
+        Lit::AtMost(9, 1),
+        Lit::Constraint(1, false),
+        Lit::Constraint(2, false),
+        Lit::AtMost(1, 4),
+        Lit::AtMost(3, 0),
+        Lit::AtMost(7, 1),
+        Lit::Constraint(1, false),
+        Lit::Constraint(2, false),
+        Lit::AtMost(1, 4),
+        Lit::AtMost(3, 0),
+        Lit::AtMost(7, 1),
+        Lit::Constraint(1, false),
+        Lit::Constraint(2, false),
+        Lit::AtMost(1, 4),
+        Lit::AtMost(3, 0),
+        Lit::AtMost(7, 1),
+        Lit::AtLeast(5, 3),
+        Lit::Constraint(1, false),
+        Lit::AtMost(1, 4),
+        Lit::AtLeast(2, 2),
+        Lit::AtMost(5, 2),
     ];
     assert_eq!(rt; told.as_slice(), wanted.as_slice());
     Ok(())
