@@ -1,1 +1,2 @@
 mod MoreLaws
+mod TrialLaws

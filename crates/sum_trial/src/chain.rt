@@ -1,10 +1,11 @@
 //! A chain of sums.
-ghost use Rattle.std.specs.Prelude.{◌≡◌, ◌+◌, ◌<◌, ◌≤◌, ◌^◌, map, IsTrue, IfOk};
+ghost use Rattle.std.specs.Prelude.{◌≡◌, ◌+◌, ◌<◌, ◌≤◌, ◌^◌, length, map, IsTrue, IfOk};
 ghost use Rattle.trail.specs.declared.shape.Shape.{Shape};
 ghost use Rattle.trail.specs.Assignment.{Assignment};
 ghost use Rattle.propagator_core.specs.Standing.{StandsFor};
 ghost use Rattle.propagator_core.specs.Several.{AllFit, AllStand};
 ghost use Rattle.sum_propagator.specs.Sums.{fits_sum, sum_meaning, StandsAt};
+ghost use Rattle.sum_trial.specs.Trials.{link_meaning, chain_meanings, IsChained};
 
 use crate::starting::{add, start};
 use linear_normal::Item;
@@ -20,6 +21,7 @@ fn link(alloc: Global, number: u32, trail: &Trail) -> Result<SumPropagator, Memo
     requires high { number ≤ trail.now.shape.constraints }
     requires next { number < trail.now.shape.variables }
     requires small { number ≤ 100000 }
+    ensures meaning { IfOk result (λ p. sum_meaning p.sum.number p.sum.items p.sum.most ≡ link_meaning number) }
     ensures fits { IfOk result (λ p. IsTrue (fits_sum p.sum.number p.sum.items trail.now.shape)) }
     ensures stands { IfOk result (λ p. StandsFor (StandsAt p.sum.items p.totals p.widest) p.seen trail.now) }
 {
@@ -36,6 +38,8 @@ fn links(alloc: Global, count: u32, trail: &Trail) -> Result<Vec<SumPropagator>,
     requires constraints { count ≡ trail.now.shape.constraints }
     requires variables { count < trail.now.shape.variables }
     requires small { count ≤ 100000 }
+    ensures meanings { IfOk result (λ all. map (λ p. sum_meaning p.sum.number p.sum.items p.sum.most) all.items ≡ chain_meanings count) }
+    ensures count { IfOk result (λ all. length all.items ≡ count) }
     ensures fit { IfOk result (λ all. AllFit (map (λ p. sum_meaning p.sum.number p.sum.items p.sum.most) all.items) trail.now.shape) }
     ensures stand { IfOk result (λ all. AllStand (λ p. StandsAt p.sum.items p.totals p.widest) (λ p. p.seen) all.items trail.now) }
 {
@@ -47,9 +51,11 @@ fn links(alloc: Global, count: u32, trail: &Trail) -> Result<Vec<SumPropagator>,
 }
 
 /// How many entries there are when so many sums are narrowed to their end.
-pub fn narrow_chain(alloc: Global, count: u32) -> Result<usize, Memory>
+pub(crate) fn narrow_chain(alloc: Global, count: u32) -> Result<usize, Memory>
     requires some { 1 ≤ count }
     requires few { count ≤ 100000 }
+    ensures at_least { IfOk result (λ entries. count ≤ entries) }
+    ensures chained { IfOk result (λ entries. IsChained count entries) }
 {
     let mut trail = start(alloc, count, count + 1, count)?;
     let mut all = links(alloc, count, &trail)?;

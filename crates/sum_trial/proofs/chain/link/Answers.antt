@@ -1,8 +1,11 @@
-use Rattle.std.proofs.Common.{List, IsTrue, subst, sym, pos, negsuc}
+use Rattle.std.proofs.Common.{List, IsTrue, ap, ◌∙◌, subst, sym, pos, negsuc}
 use Rattle.linear_normal.specs.declared.constraint.Item.{Item}
-use Rattle.sum_propagator.specs.Sums.{fits_sum, StandsAt}
+use Rattle.sum_propagator.specs.Sums.{fits_sum, sum_meaning, StandsAt}
 use Rattle.sum_trial.proofs.MoreLaws.{fits_same, stands_new, link_fits}
 use Rattle.sum_trial.proofs.chain.link.Goals as goal
+
+pub returns-in-Ok-clause-meaning : goal.returns-in-Ok-clause-meaning
+returns-in-Ok-clause-meaning c = c.in-Ok.ensures.meaning ∙ ap (λ (items : List Item). sum_meaning c.args.number items (negsuc 9)) c.in_ok-list.ensures
 
 pub returns-in-Ok-clause-fits : goal.returns-in-Ok-clause-fits
 returns-in-Ok-clause-fits c =
