@@ -4,6 +4,9 @@
 //! how many bodies, constraints and nogoods there are.
 #![tactic(auto)]
 
+ghost use Rattle.std.specs.Prelude.{◌≤◌, IfOk, IfSome};
+ghost use Rattle.numbering_trial.specs.Trials.{AreSizes, IsProgram};
+
 mod rules;
 
 use completion::complete;
@@ -24,7 +27,10 @@ struct Sizes {
 }
 
 // The program of rules over so many atoms and variables.
-fn program(alloc: Global, count: u32) -> Result<Option<GroundProgram>, Memory> {
+fn program(alloc: Global, count: u32) -> Result<Option<GroundProgram>, Memory>
+    requires { count ≤ 1000000 }
+    ensures { IfOk result (λ found. IfSome found (IsProgram count)) }
+{
     let mut symbols = SymbolTable::new(alloc)?;
     let atoms = names(alloc, &mut symbols, count)?;
     let variables = names(alloc, &mut symbols, count)?;
@@ -47,7 +53,10 @@ fn program(alloc: Global, count: u32) -> Result<Option<GroundProgram>, Memory> {
 }
 
 // The sizes of the numbered program, if there is one.
-fn numbered_sizes(alloc: Global, count: u32) -> Result<Sizes, Memory> {
+fn numbered_sizes(alloc: Global, count: u32) -> Result<Sizes, Memory>
+    requires { count ≤ 1000000 }
+    ensures { IfOk result (AreSizes count) }
+{
     match program(alloc, count)? {
         Some(program) => {
             let numbered = normalise(alloc, &program)?;
@@ -67,7 +76,10 @@ fn numbered_sizes(alloc: Global, count: u32) -> Result<Sizes, Memory> {
 }
 
 // How many atoms the words ask for, at most 1,000,000.
-fn count_of(words: &[String]) -> u32 {
+fn count_of(words: &[String]) -> u32
+    ensures some { 1 ≤ result }
+    ensures few { result ≤ 1000000 }
+{
     match words {
         [_, count] => count.parse().unwrap_or(1u32).clamp(1, 1_000_000),
         _ => 1,
