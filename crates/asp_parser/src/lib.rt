@@ -12,8 +12,6 @@ mod body;
 mod choice;
 mod constant_table;
 mod constant_term;
-#[cfg(test)]
-mod constant_tests;
 mod constants;
 mod fault;
 mod head;
@@ -25,16 +23,8 @@ mod kept_literals;
 mod kept_rules;
 mod kept_terms;
 mod literal;
-#[cfg(test)]
-mod made_programs;
-#[cfg(test)]
-mod print_tests;
-#[cfg(test)]
-mod printed;
 mod statement;
 mod text;
-#[cfg(test)]
-mod text_tests;
 mod variables;
 mod words;
 

@@ -22,5 +22,3 @@ mod words;
 pub use law::one_outcome;
 pub use running::{Report, run};
 
-#[cfg(test)]
-mod tests;

@@ -20,5 +20,3 @@ pub use settings::{CheckerSettings, SolverSettings};
 pub use stop::WordsStop;
 pub use usage::{CHECKER_USAGE, SOLVER_USAGE};
 
-#[cfg(test)]
-mod tests;

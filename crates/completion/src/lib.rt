@@ -9,17 +9,9 @@
 mod atom;
 mod body;
 mod constraint;
-#[cfg(test)]
-mod fixtures;
 mod input;
 mod laws;
-#[cfg(test)]
-mod numbering_fixtures;
-#[cfg(test)]
-mod numbering_tests;
 mod rule;
-#[cfg(test)]
-mod tests;
 mod tight;
 
 pub use input::complete;

@@ -15,8 +15,6 @@ mod marks;
 mod put;
 mod reasons;
 mod resolve;
-#[cfg(test)]
-mod tests;
 mod walk;
 
 pub use analysis::analyse;

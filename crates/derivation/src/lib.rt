@@ -14,8 +14,6 @@ mod lists;
 mod numbers;
 mod ranges;
 mod read;
-#[cfg(test)]
-mod tests;
 mod write;
 
 pub use line::{Line, LineStop};

@@ -28,8 +28,6 @@ mod shown;
 mod state;
 mod sum;
 mod sums;
-#[cfg(test)]
-mod tests;
 mod turned;
 mod window;
 

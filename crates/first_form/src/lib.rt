@@ -5,13 +5,9 @@
 //! that were read, and keeps each atom in a table of symbols.
 #![tactic(auto)]
 
-#[cfg(test)]
-mod made_statements;
 mod statement;
 mod stop;
 mod term;
-#[cfg(test)]
-mod tests;
 
 pub use statement::{DefiniteStatement, MAX_DEPTH, MAX_STATEMENTS, read_statements};
 pub use stop::FormStop;

@@ -21,8 +21,6 @@ mod print;
 mod program;
 mod reduct;
 mod rule;
-#[cfg(test)]
-mod tests;
 mod theory;
 mod value;
 

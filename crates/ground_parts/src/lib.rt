@@ -6,8 +6,6 @@
 #![tactic(auto)]
 
 mod different;
-#[cfg(test)]
-mod fixtures;
 mod linear;
 mod numbers;
 mod objective;
@@ -17,10 +15,6 @@ mod relation;
 mod rules;
 mod scratch;
 mod span;
-#[cfg(test)]
-mod tests;
-#[cfg(test)]
-mod tests_printed;
 mod totals;
 
 pub use parts::GroundParts;

@@ -13,5 +13,3 @@ pub use count::count_within;
 pub use load::load_within;
 pub use rows::{and_into, or_into};
 
-#[cfg(test)]
-mod tests;

@@ -12,8 +12,6 @@ mod merge;
 mod nogood;
 mod order;
 mod reason;
-#[cfg(test)]
-mod tests;
 
 pub use lit::{Lit, complement, implies};
 pub use nogood::{Nogood, resolve};

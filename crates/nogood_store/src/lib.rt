@@ -12,8 +12,6 @@ mod examine;
 mod propagate;
 mod slot;
 mod store;
-#[cfg(test)]
-mod tests;
 
 pub use propagate::Unit;
 pub use store::Store;

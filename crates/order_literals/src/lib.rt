@@ -9,8 +9,6 @@
 mod order_id;
 mod row;
 mod table;
-#[cfg(test)]
-mod tests;
 
 pub use order_id::OrderId;
 pub use table::{OrderLit, OrderTable};

@@ -17,8 +17,6 @@ mod memory_files;
 mod memory_sink;
 mod reading;
 mod sink;
-#[cfg(test)]
-mod tests;
 mod writing;
 
 pub use files::{Files, OutFault};

@@ -17,8 +17,6 @@ mod numbering;
 mod pairs;
 mod ranking;
 mod relevance;
-#[cfg(test)]
-mod tests;
 mod tuple_order;
 
 pub use collected::{CollectedPlace, CollectedTuples, SymbolLinear};

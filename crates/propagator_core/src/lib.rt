@@ -11,8 +11,6 @@
 mod outcome;
 mod propagator;
 mod several;
-#[cfg(test)]
-mod tests;
 
 pub use outcome::Outcome;
 pub use propagator::Propagator;

@@ -14,7 +14,5 @@ mod places;
 mod reason;
 mod sum;
 mod sum_propagator;
-#[cfg(test)]
-mod tests;
 
 pub use sum_propagator::SumPropagator;

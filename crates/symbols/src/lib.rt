@@ -17,8 +17,6 @@ mod symbol_id;
 mod symbol_stop;
 mod symbol_view;
 mod table;
-#[cfg(test)]
-mod tests;
 mod write;
 
 pub use ends::Ends;

@@ -10,19 +10,11 @@ mod binding;
 mod evaluation;
 mod literal;
 mod literal_text;
-#[cfg(test)]
-mod made_statements;
-#[cfg(test)]
-mod made_terms;
-#[cfg(test)]
-mod print_tests;
 mod rule;
 mod statement;
 mod statement_text;
 mod term;
 mod term_text;
-#[cfg(test)]
-mod tests;
 mod worth;
 mod writing;
 

@@ -18,12 +18,8 @@ mod read_term;
 mod seen;
 mod signs;
 mod term;
-#[cfg(test)]
-mod tests;
 mod theory;
 mod theory_names;
-#[cfg(test)]
-mod theory_tests;
 mod words;
 
 pub use comparison::{compared, judged_term};

@@ -11,8 +11,6 @@ mod cells;
 mod entry;
 mod shape;
 mod since;
-#[cfg(test)]
-mod tests;
 mod trail;
 mod undo;
 
