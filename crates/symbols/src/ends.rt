@@ -1,6 +1,8 @@
 // The ends of every integer variable.
 ghost use Rattle.std.specs.Prelude.{◌≡◌, ◌≤ℤ◌, pos, negsuc};
 
+use crate::limits::{MAX_END, MIN_END};
+
 /// The least and the greatest value of every integer variable.
 ///
 /// Both lie from -1073741823 to 1073741823, so that one more and one less fit a literal's number.
@@ -20,8 +22,8 @@ impl Ends {
         ensures max { result.max ≡ pos 1073741823 }
     {
         Ends {
-            min: -1_073_741_823,
-            max: 1_073_741_823,
+            min: MIN_END,
+            max: MAX_END,
         }
     }
 }

@@ -2,12 +2,13 @@
 //!
 //! A `SymbolTable` holds each symbol once: two ids of one table are equal exactly where their symbols
 //! are, and an id keeps its meaning as the table grows. `Listed` is a growable list that contracts see
-//! as a list, `Memory` the one refusal for want of memory, `Ends` the ends of all integer variables and
-//! `Rel` the six relations. Stands on `indexmap` alone.
+//! as a list, `Memory` the one refusal for want of memory, `Ends` the ends of all integer variables,
+//! `Rel` the six relations, and `limits` has the limits of both programs. Stands on `indexmap` alone.
 #![tactic(auto)]
 
 mod copy;
 mod ends;
+pub mod limits;
 mod listed;
 mod memory;
 mod order;

@@ -1,11 +1,14 @@
 // A growable list that contracts see as a list.
-ghost use Rattle.std.specs.Prelude.{◌≡◌, ◌<◌, ◌↔◌, [], ◌∷◌, ◌++◌, length, slice_set, IsTrue, OnOk, OnErr, IfOk, MatchOption};
+ghost use Rattle.std.specs.Prelude.{◌≡◌, ◌<◌, ◌≤◌, ◌↔◌, [], ◌∷◌, ◌++◌, length, take, reverse as reversed, slice_set, IsTrue, OnOk, OnErr, IfOk, MatchOption};
 ghost use Rattle.std.specs.Cmp.Lexicographic.{pointwise, lists_per, lists_equiv};
+ghost use Rattle.std.specs.Fn.{CalledAt};
+ghost use Rattle.std.specs.List.{AllZip};
+ghost use Rattle.std.specs.List.Retain.{IsFiltered};
 ghost use Rattle.std.specs.Hash as fed;
 ghost use Rattle.std.specs.Hash.{items_Alike};
 
 use crate::memory::Memory;
-use std::alloc::Global;
+use std::alloc::{AllocError, Global};
 use std::hash::{Hash, Hasher};
 use std::marker::Model;
 
@@ -73,6 +76,31 @@ impl<T> Listed<T> {
     {
         self.held.pop()
     }
+
+    /// Turns the order of the items round, in place.
+    pub fn reverse(&mut self)
+        ensures { self.new ≡ reversed self.old }
+    {
+        self.held.reverse();
+    }
+
+    /// Moves the items of another list behind these, or leaves both lists as they were.
+    pub fn append_list(&mut self, other: &mut Listed<T>) -> Result<(), Memory>
+        ensures ok { OnOk result (self.new ≡ self.old ++ other.old) }
+        ensures emptied { OnOk result (other.new ≡ []) }
+        ensures err { OnErr result (self.new ≡ self.old) }
+        ensures other_err { OnErr result (other.new ≡ other.old) }
+    {
+        self.held.append(&mut other.held)?;
+        Ok(())
+    }
+
+    /// The items as a vector, which moves none of them.
+    pub fn into_vec(self) -> Vec<T>
+        ensures { result.items ≡ self }
+    {
+        self.held
+    }
 }
 
 impl<T: Drop> Listed<T> {
@@ -91,6 +119,22 @@ impl<T: Drop> Listed<T> {
         ensures { self.new ≡ slice_set self.old place item }
     {
         self.held[place] = item;
+    }
+
+    /// Keeps the items at which `test` answers true, in their order; each is tested once, from the first on.
+    pub fn retain<F: FnMut(&T) -> bool>(&mut self, test: F)
+        requires { F.IsAlwaysCallable test }
+        ensures filtered { IsFiltered (CalledAt F.FnMut) test self.old self.new }
+        ensures bound { length self.new ≤ length self.old }
+    {
+        self.held.retain(test);
+    }
+
+    /// Keeps the first `n` items, or all where there are fewer.
+    pub fn truncate(&mut self, n: usize)
+        ensures { self.new ≡ take n self.old }
+    {
+        self.held.truncate(n);
     }
 }
 
@@ -111,6 +155,16 @@ impl<T: Copy> Listed<T> {
     {
         self.held.extend_from_slice(items)?;
         Ok(())
+    }
+}
+
+impl<T: Clone> Clone for Listed<T> {
+    ghost is_clone = { λ list copy. AllZip T.is_clone list copy };
+
+    fn clone(&self) -> Result<Self, AllocError> {
+        Ok(Listed {
+            held: self.held.clone()?,
+        })
     }
 }
 

@@ -4,18 +4,13 @@ ghost use Rattle.symbols.specs.Symbol.{depth, Number, Identifier, Text};
 ghost use Rattle.symbols.specs.Table.{IsFront, IsOnce, applied};
 ghost use Rattle.symbols.specs.Nodes.{symbols_of, symbol_of, IsBelow, IsTable, deepest_at};
 
+use crate::limits::{MAX_DEPTH, MAX_SYMBOLS};
 use crate::memory::Memory;
 use crate::symbol_id::SymbolId;
 use crate::symbol_stop::SymbolStop;
 use indexmap::IndexSet;
 use std::alloc::Global;
 use std::marker::Model;
-
-// The most symbols of a table, so that each place is a `u32`.
-const MOST: usize = 4_294_967_295;
-
-// How deep functions and tuples may nest.
-const DEEPEST: u16 = 256;
 
 // One layer of a symbol: its arguments are the ids of symbols before it.
 #[derive(Clone, Debug, PartialEq, Eq, Hash, Drop)]
@@ -74,6 +69,14 @@ impl SymbolTable {
         self.nodes.len()
     }
 
+    /// No symbol stands twice, so ids are equal exactly where their symbols are. This call does nothing:
+    /// its clause is a law that callers may use, of every table.
+    pub fn symbols_are_distinct(&self)
+        ensures { IsOnce self.now }
+    {
+        let _ = &self.nodes;
+    }
+
     /// The id of a number.
     pub fn number(&mut self, n: i32) -> Result<SymbolId, Memory>
         ensures id { IfOk result (λ id. slice_get self.new id ≡ Some (Number n)) }
@@ -118,7 +121,7 @@ impl SymbolTable {
         ensures err { OnErr result (self.new ≡ self.old) }
     {
         let below = deepest_of(&self.depths, args);
-        if below >= DEEPEST {
+        if below >= MAX_DEPTH {
             return Err(SymbolStop::TooDeep);
         }
         let name = String::from_str(self.alloc, name)?;
@@ -164,7 +167,7 @@ fn place_in(
     ensures table { IsTable nodes.new.keys depths.new.items }
     ensures err { OnErr result (nodes.new.keys ≡ nodes.old.keys) }
 {
-    if nodes.len() >= MOST {
+    if nodes.len() >= MAX_SYMBOLS {
         return Err(Memory);
     }
     depths.reserve(1)?;

@@ -9,8 +9,8 @@ OnOk-always : {T E : Type 0} (r : Result T E) (P : Type 0) → P → OnOk r P
 OnOk-always (Ok x) P p = p
 OnOk-always (Err x) P p = tt
 
-pub returns-then-below-ge-DEEPEST-clause-too_deep : goal.returns-then-below-ge-DEEPEST-clause-too_deep
-returns-then-below-ge-DEEPEST-clause-too_deep c = λ _.
+pub returns-then-below-ge-MAX_DEPTH-clause-too_deep : goal.returns-then-below-ge-MAX_DEPTH-clause-too_deep
+returns-then-below-ge-MAX_DEPTH-clause-too_deep c = λ _.
     let d = found-deepest c.self.inside.nodes.keys c.self.inside.depths.items _ _ c.args.args.now _ c.self.view_is c.self.invariant.depths c.requires.args c.deref.ensures.value c.deepest_of-below.ensures in
     omega arith
 
