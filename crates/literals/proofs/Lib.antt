@@ -5,3 +5,6 @@ pub mod Worlds
 pub mod LitLaws
 pub mod SameLaws
 pub mod KeyLaws
+pub mod SortedLaws
+pub mod PlaceLaws
+pub mod ChainLaws

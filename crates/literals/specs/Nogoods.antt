@@ -78,3 +78,21 @@ resolved left pivot right (Some q) = Some (joined (without left pivot) (without 
 abbrev pub resolvent : List Lit → Lit → List Lit → Option (List Lit)
 resolvent left pivot right =
     cond (has_lit left pivot) (resolved left pivot right (find (answers pivot) right)) None
+
+-- a nogood resolved at the pivot with another: nothing where one of them is missing
+abbrev pub resolved_with : Option (List Lit) → Lit → Option (List Lit) → Option (List Lit)
+resolved_with None pivot right = None
+resolved_with (Some left) pivot None = None
+resolved_with (Some left) pivot (Some right) = resolvent left pivot right
+
+-- the last result of a chain of resolutions: the nogood so far, resolved at each link's pivot in turn with the nogood of the link
+abbrev pub chain_by : {L : Type 0} → (L → Lit) → (L → Option (List Lit)) → Option (List Lit) → List L → Option (List Lit)
+chain_by pivot nogood so_far links = fold (λ last link. resolved_with last (pivot link) (nogood link)) so_far links
+
+-- the same where a link is a pivot and a name, under which the nogood stands
+abbrev pub chain : {K : Type 0} → (K → Option (List Lit)) → Option (List Lit) → List (Lit × K) → Option (List Lit)
+chain under so_far links = chain_by (λ link. link.0) (λ link. under link.1) so_far links
+
+-- the literal of a list at the place of this one: the bound on the same side of the same variable, or the literal itself
+abbrev pub standing : List Lit → Lit → Option Lit
+standing lits l = find (λ x. same_place x l) lits

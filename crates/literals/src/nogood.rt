@@ -11,11 +11,11 @@ ghost use Rattle.literals.specs.contracts.lit.LitHash.TheImpl.{ghosts as hashed_
 ghost use Rattle.literals.specs.contracts.lit.LitHash.TheImpl.Laws.{respects_eq-law as hashes_agree};
 ghost use Rattle.literals.specs.Truths.{Truths, all_true, Meets};
 ghost use Rattle.literals.specs.Lits.{IsLit};
-ghost use Rattle.literals.specs.Nogoods.{IsNogood, canonical, has_lit, answers, resolvent};
+ghost use Rattle.literals.specs.Nogoods.{IsNogood, canonical, answers, resolvent};
 
 use crate::lit::{Lit, complement, implies};
 use crate::merge::{merge, sorted};
-use crate::order::same;
+use crate::sorted::has_sorted;
 use smallvec::SmallVec;
 use std::alloc::Global;
 use std::hash::{Hash, Hasher};
@@ -68,13 +68,6 @@ impl Hash for Nogood {
     }
 }
 
-// Whether the literal is among these.
-fn has(lits: &[Lit], lit: Lit) -> bool
-    ensures { result ≡ has_lit lits.now lit }
-{
-    lits.iter().any(|x| same(*x, lit))
-}
-
 // The literal whose opposite implies the pivot.
 fn answer_to(lits: &[Lit], pivot: Lit) -> Option<Lit>
     requires { All IsLit lits.now }
@@ -124,7 +117,7 @@ pub fn resolve(
     ensures value { IfOk result (λ r. r ≡ resolvent left.now pivot right.now) }
     ensures sound { IfOk result (λ r. IfSome r (λ n. (t : Truths) → Meets t left.now → Meets t right.now → Meets t n)) }
 {
-    if !has(left.lits(), pivot) {
+    if !has_sorted(left.lits(), pivot) {
         return Ok(None);
     }
     let Some(q) = answer_to(right.lits(), pivot) else {

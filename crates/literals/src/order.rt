@@ -1,7 +1,7 @@
 // The order of a nogood's literals.
 ghost use Rattle.std.specs.Prelude.{◌≡◌};
 ghost use Rattle.literals.specs.Lits.{same_lit};
-ghost use Rattle.literals.specs.Nogoods.{kind_of, index_of, is_before, stronger};
+ghost use Rattle.literals.specs.Nogoods.{kind_of, index_of, is_before, stronger, has_lit};
 
 use crate::lit::{Lit, implies};
 
@@ -31,20 +31,28 @@ fn index(lit: Lit) -> u64
     }
 }
 
-// Whether `a` stands before `b`.
+/// Whether `a` stands before `b` in a nogood: atoms first, then bodies, constraints and bounds; within a
+/// kind by number, the true one before the false one, an upper bound before a lower one.
 #[inline]
-pub(crate) fn before(a: Lit, b: Lit) -> bool
+pub fn before(a: Lit, b: Lit) -> bool
     ensures { result ≡ is_before a b }
 {
     kind(a) < kind(b) || kind(a) == kind(b) && index(a) < index(b)
 }
 
-// Whether the two are one literal.
+/// Whether the two are one literal.
 #[inline]
-pub(crate) fn same(a: Lit, b: Lit) -> bool
+pub fn same(a: Lit, b: Lit) -> bool
     ensures { result ≡ same_lit a b }
 {
     implies(a, b) && implies(b, a)
+}
+
+/// Whether the literal is among these, which need not be sorted. O(n).
+pub fn has(lits: &[Lit], lit: Lit) -> bool
+    ensures { result ≡ has_lit lits.now lit }
+{
+    lits.iter().any(|x| same(*x, lit))
 }
 
 // The stronger of two literals of one place.
