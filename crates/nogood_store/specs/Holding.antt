@@ -1,5 +1,5 @@
--- What callers see of a store: nogoods under ids, and the entries of the trail at which it has looked.
-use Rattle.std.specs.Prelude.{◌≡◌, ℕ, suc, ◌<◌, ◌==◌, ◌++◌, cond, List, [], ◌∷◌, Option, None, Some}
+-- What callers see of a store: nogoods under ids, and the literals of the trail at which it has looked.
+use Rattle.std.specs.Prelude.{◌≡◌, ℕ, suc, ◌<◌, ◌==◌, ◌++◌, cond, List, [], ◌∷◌, map, Option, None, Some}
 use Rattle.std.specs.List.{AllByRecursion, Contains}
 use Rattle.literals.specs.declared.lit.Lit.{Lit}
 use Rattle.trail.specs.declared.entry.Entry.{Entry}
@@ -9,10 +9,15 @@ pub record Held : Type 0 where
   pub id : ℕ
   pub nogood : List Lit
 
--- the held nogoods in the order of their ids, and the entries at which the store has looked
+-- a literal at which the store has looked, and its level
+pub record Seen : Type 0 where
+  pub lit : Lit
+  pub level : ℕ
+
+-- the held nogoods in the order of their ids, and the literals at which the store has looked
 pub record Holding : Type 0 where
   pub held : List Held
-  pub looked : List Entry
+  pub looked : List Seen
 
 -- the nogood that is held under the id
 abbrev pub nogood_under : List Held → ℕ → Option (List Lit)
@@ -37,6 +42,10 @@ numbered_from id (n ∷ ns) = record { id = id; nogood = n } ∷ numbered_from (
 abbrev pub IsHeld : List Held → List Lit → Type 0
 IsHeld held n = (h : Held) × Contains held h × (h.nogood ≡ n)
 
--- the first entries are these
-abbrev pub IsFront : List Entry → List Entry → Type 0
-IsFront first entries = (more : List Entry) × (entries ≡ first ++ more)
+-- the literals of these entries, with their levels
+abbrev pub seen_of : List Entry → List Seen
+seen_of entries = map (λ e. record { lit = e.lit; level = e.level }) entries
+
+-- the first of the second list are the first list
+abbrev pub IsFront : List Seen → List Seen → Type 0
+IsFront first seen = (more : List Seen) × (seen ≡ first ++ more)

@@ -4,7 +4,7 @@ ghost use Rattle.std.specs.List.{AllByRecursion};
 ghost use Rattle.trail.specs.Assignment.{Names};
 ghost use Rattle.trail.specs.Growth.{Grows};
 ghost use Rattle.nogood_store.specs.Propagation.{AsksFor, IsForced, IsConflict, IsQuiet, Answers, AllNamed};
-ghost use Rattle.nogood_store.specs.Kept.{held_of, Settles, IsStore};
+ghost use Rattle.nogood_store.specs.Kept.{held_of, SlotsAscend, Settles};
 
 use crate::examine::{Asks, examine};
 use crate::slot::Slot;
@@ -40,16 +40,16 @@ fn settle(id: u64, nogood: &Nogood, trail: &mut Trail) -> Result<Asks, Memory>
 
 // Goes once over the held nogoods, and sets what each asks for. It gives the id of one whose literals are
 // all true, if it comes to one.
-fn pass(slots: &[Slot], nogoods: &[Nogood], trail: &mut Trail) -> Result<Option<u64>, Memory>
-    requires store { IsStore nogoods.now slots.now }
-    requires named { AllNamed trail.old.shape (held_of nogoods.now slots.now) }
-    ensures grows { Grows (IsForced (held_of nogoods.now slots.now)) trail.old trail.new }
-    ensures conflict { IfOk result (λ found. IfSome found (λ id. IsConflict (held_of nogoods.now slots.now) trail.new id)) }
+fn pass(slots: &[Slot], trail: &mut Trail) -> Result<Option<u64>, Memory>
+    requires ascend { SlotsAscend slots.now }
+    requires named { AllNamed trail.old.shape (held_of slots.now) }
+    ensures grows { Grows (IsForced (held_of slots.now)) trail.old trail.new }
+    ensures conflict { IfOk result (λ found. IfSome found (λ id. IsConflict (held_of slots.now) trail.new id)) }
     ensures quiet { IfOk result (λ found. IfNone found (length trail.new.entries ≡ length trail.old.entries
-        → AllByRecursion (λ h. IsQuiet trail.new h.nogood) (held_of nogoods.now slots.now))) }
+        → AllByRecursion (λ h. IsQuiet trail.new h.nogood) (held_of slots.now))) }
 {
     for slot in slots {
-        match settle(slot.id, &nogoods[slot.place], trail)? {
+        match settle(slot.id, &slot.nogood, trail)? {
             Asks::AllTrue => return Ok(Some(slot.id)),
             Asks::OneOpen(_) => {}
             Asks::Nothing => {}
@@ -59,19 +59,15 @@ fn pass(slots: &[Slot], nogoods: &[Nogood], trail: &mut Trail) -> Result<Option<
 }
 
 /// Goes over the held nogoods until none asks for anything.
-pub(crate) fn propagate(
-    slots: &[Slot],
-    nogoods: &[Nogood],
-    trail: &mut Trail,
-) -> Result<Unit, Memory>
-    requires store { IsStore nogoods.now slots.now }
-    requires named { AllNamed trail.old.shape (held_of nogoods.now slots.now) }
-    ensures grows { Grows (IsForced (held_of nogoods.now slots.now)) trail.old trail.new }
-    ensures answer { IfOk result (λ answer. Answers (held_of nogoods.now slots.now) trail.new answer) }
+pub(crate) fn propagate(slots: &[Slot], trail: &mut Trail) -> Result<Unit, Memory>
+    requires ascend { SlotsAscend slots.now }
+    requires named { AllNamed trail.old.shape (held_of slots.now) }
+    ensures grows { Grows (IsForced (held_of slots.now)) trail.old trail.new }
+    ensures answer { IfOk result (λ answer. Answers (held_of slots.now) trail.new answer) }
 {
     'passes: loop {
         let before = trail.length();
-        if let Some(id) = pass(slots, nogoods, trail)? {
+        if let Some(id) = pass(slots, trail)? {
             return Ok(Unit::Conflict(id));
         }
         if trail.length() == before {

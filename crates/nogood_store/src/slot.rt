@@ -1,18 +1,21 @@
-// Where the nogood of an id stands.
-ghost use Rattle.std.specs.Prelude.{◌≡◌};
-ghost use Rattle.nogood_store.specs.Kept.{SlotsAscend, place_under};
+// Nogoods under their ids.
+ghost use Rattle.std.specs.Prelude.{◌≡◌, ◌↔◌, IsTrue, option_copied};
+ghost use Rattle.nogood_store.specs.Holding.{nogood_under, IsHeld};
+ghost use Rattle.nogood_store.specs.Kept.{held_of, SlotsAscend};
 
-/// An id, with the place of its nogood.
-#[derive(Clone, Copy, Debug)]
+use literals::Nogood;
+
+/// A nogood that is held, under its id.
+#[derive(Debug, Drop)]
 pub(crate) struct Slot {
     pub(crate) id: u64,
-    pub(crate) place: usize,
+    pub(crate) nogood: Nogood,
 }
 
-/// The place of the nogood under the id.
-pub(crate) fn place_of(slots: &[Slot], id: u64) -> Option<usize>
+/// The nogood under the id.
+pub(crate) fn nogood_of(slots: &[Slot], id: u64) -> Option<&Nogood>
     requires { SlotsAscend slots.now }
-    ensures { result ≡ place_under slots.now id }
+    ensures { option_copied result ≡ nogood_under (held_of slots.now) id }
 {
     let mut low = 0;
     let mut high = slots.len();
@@ -25,8 +28,20 @@ pub(crate) fn place_of(slots: &[Slot], id: u64) -> Option<usize>
         }
     }
     if low < slots.len() && slots[low].id == id {
-        Some(slots[low].place)
+        Some(&slots[low].nogood)
     } else {
         None
     }
+}
+
+/// Whether one of the slots has a nogood with the same literals.
+pub(crate) fn has_nogood(slots: &[Slot], nogood: &Nogood) -> bool
+    ensures { IsTrue result ↔ IsHeld (held_of slots.now) nogood.now }
+{
+    for slot in slots {
+        if slot.nogood == *nogood {
+            return true;
+        }
+    }
+    false
 }

@@ -1,12 +1,11 @@
 // The store of held nogoods.
 ghost use Rattle.std.specs.Prelude.{◌≡◌, ◌≤◌, ◌++◌, ◌∷◌, [], ◌↔◌, length, IsTrue, IfOk, OnOk, OnErr, option_copied, reverse};
 ghost use Rattle.trail.specs.Growth.{Grows};
-ghost use Rattle.nogood_store.specs.Holding.{AreBelow, Ascends, nogood_under, numbered_from, IsHeld, IsFront};
+ghost use Rattle.nogood_store.specs.Holding.{AreBelow, Ascends, nogood_under, numbered_from, IsHeld, seen_of, IsFront};
 ghost use Rattle.nogood_store.specs.Propagation.{AllNamed, IsForced, Answers};
 
 use crate::propagate::{Unit, propagate};
-use crate::slot::{Slot, place_of};
-use indexmap::IndexSet;
+use crate::slot::{Slot, has_nogood, nogood_of};
 use literals::Nogood;
 use std::alloc::Global;
 use std::marker::Model;
@@ -14,26 +13,23 @@ use symbols::{Listed, Memory};
 use trail::Trail;
 
 /// The nogoods that are held, each under its id. Clauses see them in the order of their ids, with the
-/// entries of the trail at which the store has looked: those must still be the first of the trail when it
+/// literals of the trail at which the store has looked: those must still be the first of the trail when it
 /// propagates.
-///
-/// Nogoods with the same literals share one place, which a hashed table finds.
 #[derive(Debug, Drop)]
 pub struct Store {
-    nogoods: IndexSet<Nogood>,
     slots: Vec<Slot>,
 }
 
 impl Model for Store {
     ghost use Rattle.std.specs.Prelude.{[]};
     ghost use Rattle.nogood_store.specs.Holding.{Holding};
-    ghost use Rattle.nogood_store.specs.Kept.{IsStore, held_of};
+    ghost use Rattle.nogood_store.specs.Kept.{SlotsAscend, held_of};
 
     ghost Value = { Holding };
 
-    ghost view = { λ s. record { held = held_of s.nogoods.keys s.slots.items; looked = [] } };
+    ghost view = { λ s. record { held = held_of s.slots.items; looked = [] } };
 
-    ghost invariant = { λ s. IsStore s.nogoods.keys s.slots.items };
+    ghost invariant = { λ s. SlotsAscend s.slots.items };
 }
 
 // The list in the opposite order.
@@ -57,7 +53,6 @@ impl Store {
     {
         let mut rest = reversed(alloc, input)?;
         let mut store = Store {
-            nogoods: IndexSet::new(alloc),
             slots: Vec::new(alloc),
         };
         let count = rest.len() as u64;
@@ -73,16 +68,14 @@ impl Store {
         }
     }
 
-    /// Holds one more nogood, under an id above all others. Amortised linear in its literals.
+    /// Holds one more nogood, under an id above all others. Amortised O(1).
     pub fn add(&mut self, id: u64, nogood: Nogood) -> Result<(), Memory>
         requires { AreBelow id self.old.held }
         ensures ok { OnOk result (self.new.held ≡ self.old.held ++ record { id = id; nogood = nogood } ∷ []) }
         ensures err { OnErr result (self.new.held ≡ self.old.held) }
         ensures looked { self.new.looked ≡ self.old.looked }
     {
-        self.slots.reserve(1)?;
-        let (place, _) = self.nogoods.insert_full(nogood)?;
-        self.slots.push(Slot { id, place })?;
+        self.slots.push(Slot { id, nogood })?;
         Ok(())
     }
 
@@ -92,13 +85,13 @@ impl Store {
     /// Each round looks at every literal of every held nogood.
     pub fn unit_propagate(&mut self, trail: &mut Trail) -> Result<Unit, Memory>
         requires named { AllNamed trail.old.shape self.old.held }
-        requires looked { IsFront self.old.looked trail.old.entries }
+        requires looked { IsFront self.old.looked (seen_of trail.old.entries) }
         ensures grows { Grows (IsForced self.old.held) trail.old trail.new }
         ensures answer { IfOk result (λ answer. Answers self.old.held trail.new answer) }
         ensures held { self.new.held ≡ self.old.held }
-        ensures looked { IsFront self.new.looked trail.new.entries }
+        ensures looked { IsFront self.new.looked (seen_of trail.new.entries) }
     {
-        propagate(&self.slots, self.nogoods.as_slice(), trail)
+        propagate(&self.slots, trail)
     }
 
     /// Forgets what it saw past the trail's length: to be called after the trail was undone.
@@ -115,16 +108,13 @@ impl Store {
         ensures value { option_copied result ≡ nogood_under self.now.held id }
         ensures ascends { Ascends self.now.held }
     {
-        match place_of(&self.slots, id) {
-            Some(place) => self.nogoods.get_index(place),
-            None => None,
-        }
+        nogood_of(&self.slots, id)
     }
 
-    /// Whether a nogood with the same literals is held. Linear in its literals.
+    /// Whether a nogood with the same literals is held. It looks at each held nogood: the search never asks.
     pub fn is_held(&self, nogood: &Nogood) -> bool
         ensures { IsTrue result ↔ IsHeld self.now.held nogood.now }
     {
-        self.nogoods.contains(nogood)
+        has_nogood(&self.slots, nogood)
     }
 }

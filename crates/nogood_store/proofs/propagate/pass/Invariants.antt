@@ -7,5 +7,5 @@ use Rattle.nogood_store.proofs.propagate.pass.Given as goal
 
 abbrev pub invariant-loop-slot : goal.invariant-loop-slot
 invariant-loop-slot l =
-    Grows (IsForced (held_of l.nogoods l.slots)) l.fn.trail l.trail
-    × (length l.trail.entries ≡ length l.fn.trail.entries → AllByRecursion (λ h. IsQuiet l.trail h.nogood) (held_of l.nogoods (take l.slot-index l.slots)))
+    Grows (IsForced (held_of l.slots)) l.fn.trail l.trail
+    × (length l.trail.entries ≡ length l.fn.trail.entries → AllByRecursion (λ h. IsQuiet l.trail h.nogood) (held_of (take l.slot-index l.slots)))

@@ -5,7 +5,7 @@ use Rattle.nogood_store.specs.Kept.{held_of}
 use Rattle.nogood_store.proofs.propagate.propagate.Given as goal
 
 abbrev pub invariant-passes : goal.invariant-passes
-invariant-passes l = Grows (IsForced (held_of l.nogoods l.slots)) l.fn.trail l.trail
+invariant-passes l = Grows (IsForced (held_of l.slots)) l.fn.trail l.trail
 
 abbrev pub decreases-passes : goal.decreases-passes
 decreases-passes l = 2 ^ 64 - length l.trail.entries

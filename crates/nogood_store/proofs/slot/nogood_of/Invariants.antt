@@ -1,6 +1,6 @@
 use Rattle.std.proofs.Common.{◌-◌, ◌<◌, ◌≤◌, length, get_or, ℕ}
 use Rattle.nogood_store.specs.declared.slot.Slot.{Slot}
-use Rattle.nogood_store.proofs.slot.place_of.Given as goal
+use Rattle.nogood_store.proofs.slot.nogood_of.Given as goal
 
 abbrev pub invariant-loop-low : goal.invariant-loop-low
 invariant-loop-low l = record {
