@@ -1,2 +1,2 @@
 pub mod SeveralLaws
-mod HeldLaws
+pub mod TouchingLaws

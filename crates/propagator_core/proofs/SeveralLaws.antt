@@ -13,9 +13,9 @@ use Rattle.trail.proofs.GrowthLaws.{grows_on, grows_map, grows_same, grows_shape
 use Rattle.propagator_core.specs.Meaning.{Meaning}
 use Rattle.propagator_core.specs.Standing.{StandsFor}
 use Rattle.propagator_core.specs.Shown.{IsShown, IsConflict}
-use Rattle.propagator_core.specs.Quiet.{IsQuiet, Answers}
-use Rattle.propagator_core.specs.Several.{some_valid, AllFit, AllStand, AllQuiet}
-use Rattle.propagator_core.specs.Turns.{FirstQuiet, Turns, turn_after}
+use Rattle.propagator_core.specs.Quiet.{Answers}
+use Rattle.propagator_core.specs.Several.{some_valid, AllFit, AllStand, AllQuiet, AllRest}
+use Rattle.propagator_core.specs.Turns.{IsDone, FirstDone, Turns, turn_after}
 use Rattle.propagator_core.specs.declared.outcome.Outcome.{Outcome}
 use Rattle.propagator_core.specs.declared.outcome.Outcome.TheVariants as outcome
 use Rattle.propagator_core.specs.declared.several.Turn.{Turn}
@@ -26,13 +26,13 @@ Valid = Shape → Reason → Bool
 -- validity
 
 shown_map : (v w : Valid) → ((s : Shape) (r : Reason) → IsTrue (v s r) → IsTrue (w s r)) → (t : Assignment) (e : Entry) → IsShown v t e → IsShown w t e
-shown_map v w f t e h = record { reason = h.reason; why = h.why; is_valid = f t.shape h.reason h.is_valid; forces = h.forces }
+shown_map v w f t e h = record { reason = h.reason; why = h.why; is_valid = f t.shape h.reason h.is_valid; spelled = h.spelled; forces = h.forces }
 
 pub shown_grows : (v w : Valid) → ((s : Shape) (r : Reason) → IsTrue (v s r) → IsTrue (w s r)) → (a b : Assignment) → Grows (IsShown v) a b → Grows (IsShown w) a b
 shown_grows v w f a b g = grows_map (IsShown v) (IsShown w) (shown_map v w f) a b g
 
 pub conflict_map : (v w : Valid) → ((s : Shape) (r : Reason) → IsTrue (v s r) → IsTrue (w s r)) → (t : Assignment) (r : Reason) → IsConflict v t r → IsConflict w t r
-conflict_map v w f t r c = record { is_valid = f t.shape r c.is_valid; all_true = c.all_true }
+conflict_map v w f t r c = record { is_valid = f t.shape r c.is_valid; spelled = c.spelled; all_true = c.all_true }
 
 -- what one calls valid, one of them does
 pub one_valid : (ms : List Meaning) (i : ℕ) (d : Meaning) → i < length ms → (s : Shape) (r : Reason) → IsTrue ((get_or ms i d).valid s r) → IsTrue (some_valid ms s r)
@@ -76,7 +76,7 @@ grows_at f xs i d a b lt g =
     (λ s r h. one_valid (map f xs) i (f d) (let e = length_map f xs in omega (arith, e, lt)) s r (subst (λ (m : Meaning). IsTrue (m.valid s r)) (sym (get_or-map f xs i d (f d) lt)) h)) a b g
 
 any : Meaning
-any = record { number = 0; fits = λ s. true; valid = λ s r. true; counts = λ n. true; settled = λ t. true }
+any = record { number = 0; fits = λ s. true; valid = λ s r. true; counts = λ n. true; settled = λ t. true; touches = []; rests = λ t. true }
 
 -- what the answer of one says of all of them
 
@@ -114,21 +114,24 @@ grows_turn ms ns a b c g e h = grows_on (IsShown (some_valid ms)) a b c g (subst
 pub conflict_as : (ms ns : List Meaning) (t : Assignment) (r : Reason) → ns ≡ ms → IsConflict (some_valid ns) t r → IsConflict (some_valid ms) t r
 conflict_as ms ns t r e h = subst (λ (qs : List Meaning). IsConflict (some_valid qs) t r) e h
 
-pub one_more_quiet : (ms ns : List Meaning) (i : ℕ) (a b : Assignment) → ns ≡ ms → FirstQuiet ms i a → (b ≡ a) × ((m : Meaning) → IsQuiet (get_or ns i m) b) → FirstQuiet ms (i + 1) b
-one_more_quiet ms ns i a b e before h k m lt = split (nat_split k lt)
+pub one_more_done : (ms ns : List Meaning) (i : ℕ) (a b : Assignment) → ns ≡ ms → FirstDone ms i a → (b ≡ a) × ((m : Meaning) → IsDone (get_or ns i m) b) → FirstDone ms (i + 1) b
+one_more_done ms ns i a b e before h k m lt = split (nat_split k lt)
   where
     nat_split : (k : ℕ) → k < i + 1 → (k < i) ⊎ (k ≡ i)
     nat_split k lt = grind arith
 
-    split : (k < i) ⊎ (k ≡ i) → IsQuiet (get_or ms k m) b
-    split (inl less) = subst (λ (t : Assignment). IsQuiet (get_or ms k m) t) (sym h.0) (before k m less)
-    split (inr same) = subst (λ (n : ℕ). IsQuiet (get_or ms n m) b) (sym same) (subst (λ (qs : List Meaning). IsQuiet (get_or qs i m) b) e (h.1 m))
+    split : (k < i) ⊎ (k ≡ i) → IsDone (get_or ms k m) b
+    split (inl less) = subst (λ (t : Assignment). IsDone (get_or ms k m) t) (sym h.0) (before k m less)
+    split (inr same) = subst (λ (n : ℕ). IsDone (get_or ms n m) b) (sym same) (subst (λ (qs : List Meaning). IsDone (get_or qs i m) b) e (h.1 m))
 
-pub none_quiet : (ms : List Meaning) (t : Assignment) → FirstQuiet ms 0 t
-none_quiet ms t k m lt = absurd (omega arith)
+pub none_done : (ms : List Meaning) (t : Assignment) → FirstDone ms 0 t
+none_done ms t k m lt = absurd (omega arith)
 
-pub all_quiet : {X : Type 0} (f : X → Meaning) (xs ys : List X) (t : Assignment) → map f ys ≡ map f xs → FirstQuiet (map f xs) (length ys) t → AllQuiet (map f xs) t
-all_quiet f xs ys t e h k m lt = h k m (let a = length_map f xs in let b = length_map f ys in let c = ap length e in omega (arith, a, b, c, lt))
+pub all_quiet : {X : Type 0} (f : X → Meaning) (xs ys : List X) (t : Assignment) → map f ys ≡ map f xs → FirstDone (map f xs) (length ys) t → AllQuiet (map f xs) t
+all_quiet f xs ys t e h k m lt = (h k m (let a = length_map f xs in let b = length_map f ys in let c = ap length e in omega (arith, a, b, c, lt))).0
+
+pub all_rest : {X : Type 0} (f : X → Meaning) (xs ys : List X) (t : Assignment) → map f ys ≡ map f xs → FirstDone (map f xs) (length ys) t → AllRest (map f xs) t
+all_rest f xs ys t e h k m lt = (h k m (let a = length_map f xs in let b = length_map f ys in let c = ap length e in omega (arith, a, b, c, lt))).1
 
 pub count_of : {X : Type 0} (f : X → Meaning) (xs ys : List X) → map f ys ≡ map f xs → length ys ≡ length xs
 count_of f xs ys e = sym (length_map f ys) ∙ ap length e ∙ length_map f xs

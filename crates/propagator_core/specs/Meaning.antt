@@ -1,8 +1,9 @@
 -- What a propagator stands for. It is plain data, so that what no call changes is one equation.
-use Rattle.std.specs.Prelude.{ℕ, Bool}
+use Rattle.std.specs.Prelude.{ℕ, Bool, List}
 use Rattle.literals.specs.declared.reason.Reason.{Reason}
 use Rattle.trail.specs.declared.shape.Shape.{Shape}
 use Rattle.trail.specs.Assignment.{Assignment}
+use Rattle.propagator_core.specs.declared.touch.Touch.{Touch}
 
 pub record Meaning : Type 0 where
   -- the number of its constraint
@@ -15,3 +16,7 @@ pub record Meaning : Type 0 where
   pub counts : ℕ → Bool
   -- whether the trail says of the constraint what its values say
   pub settled : Assignment → Bool
+  -- the bounds and the truths at which it looks
+  pub touches : List Touch
+  -- whether it rests on the trail: by these bounds and truths alone nothing is left to say
+  pub rests : Assignment → Bool

@@ -1,13 +1,14 @@
--- When a propagator has nothing left to say on a trail, and what its answers tell.
+-- When a propagator has nothing left to say on a trail, how long that lasts, and what its answers tell.
 use Rattle.std.specs.Prelude.{◌≡◌, ℕ, zero, suc, ◌<◌, ◌≤◌, ◌⊎◌, Bool, true, false, IsTrue, length, Some}
 use Rattle.literals.specs.declared.lit.Lit.{Lit}
 use Rattle.literals.specs.declared.lit.Lit.TheVariants.{Constraint}
 use Rattle.literals.specs.declared.reason.Step.{Step}
 use Rattle.literals.specs.declared.reason.Step.TheVariants.{Sum, Hole}
 use Rattle.literals.specs.declared.reason.Reason.{Reason}
-use Rattle.trail.specs.Assignment.{Assignment, truth_on, lower_on, upper_on}
+use Rattle.trail.specs.Assignment.{Assignment, IsAssignment, truth_on, lower_on, upper_on}
 use Rattle.trail.specs.Forced.{AllTrueOn, AllButOpen}
 use Rattle.propagator_core.specs.Meaning.{Meaning}
+use Rattle.propagator_core.specs.Touching.{SameOfAll}
 use Rattle.propagator_core.specs.Shown.{IsConflict}
 use Rattle.propagator_core.specs.declared.outcome.Outcome.{Outcome}
 use Rattle.propagator_core.specs.declared.outcome.Outcome.TheVariants.{Quiet, Narrowed, Conflict}
@@ -36,8 +37,13 @@ pub record IsQuiet (m : Meaning) (t : Assignment) : Type 0 where
   pub none_forced : (r : Reason) (l : Lit) → IsTrue (m.valid t.shape r) → narrows r.step ≡ true → AllButOpen t r.nogood l → ⊥
   pub settled : IsDecided m t → IsTrue (m.settled t)
 
+-- where it rests it is quiet, and it rests on while the trail knows the same of all that it touches
+pub record IsSteady (m : Meaning) : Type 0 where
+  pub quiet : (t : Assignment) → IsAssignment t → IsTrue (m.fits t.shape) → IsTrue (m.rests t) → IsQuiet m t
+  pub lasts : (t u : Assignment) → u.shape ≡ t.shape → SameOfAll t u m.touches → IsTrue (m.rests t) → IsTrue (m.rests u)
+
 -- what an answer tells of the trail before the call and after it
 abbrev pub Answers : Meaning → Assignment → Assignment → Outcome → Type 0
-Answers m old new Quiet = IsQuiet m new
+Answers m old new Quiet = IsQuiet m new × IsTrue (m.rests new)
 Answers m old new Narrowed = length old.entries < length new.entries
 Answers m old new (Conflict r) = IsConflict m.valid new r

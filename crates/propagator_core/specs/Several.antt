@@ -25,3 +25,7 @@ AllStand stands looked all t = All (λ p. StandsFor (stands p) (looked p) t) all
 -- each has nothing left to say
 abbrev pub AllQuiet : List Meaning → Assignment → Type 0
 AllQuiet meanings t = All (λ m. IsQuiet m t) meanings
+
+-- each rests
+abbrev pub AllRest : List Meaning → Assignment → Type 0
+AllRest meanings t = All (λ m. IsTrue (m.rests t)) meanings

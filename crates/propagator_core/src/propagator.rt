@@ -6,11 +6,12 @@ ghost use Rattle.trail.specs.Growth.{Grows};
 ghost use Rattle.propagator_core.specs.Meaning.{Meaning};
 ghost use Rattle.propagator_core.specs.Standing.{StandsFor};
 ghost use Rattle.propagator_core.specs.Shown.{IsShown};
-ghost use Rattle.propagator_core.specs.Quiet.{Answers};
+ghost use Rattle.propagator_core.specs.Quiet.{IsSteady, Answers};
 
 use crate::outcome::Outcome;
+use crate::touch::Touch;
 use std::alloc::Global;
-use symbols::Memory;
+use symbols::{Listed, Memory};
 use trail::Trail;
 
 /// A constraint at work on a trail: it narrows bounds, tells a complete reason for each step, and goes
@@ -30,6 +31,12 @@ pub trait Propagator: Drop {
     fn constraint(&self) -> u32
         ensures { result ≡ (meaning self.now).number };
 
+    /// What it touches, perhaps with repeats. Where it rests it is quiet, and it need not be called again
+    /// until an entry is a bound or a truth among these.
+    fn touches(&self, alloc: Global) -> Result<Listed<Touch>, Memory>
+        ensures value { IfOk result (λ touches. touches ≡ (meaning self.now).touches) }
+        ensures steady { IsSteady (meaning self.now) };
+
     /// At how many entries of the trail it has looked.
     fn seen(&self) -> usize
         ensures { result ≡ looked self.now };
@@ -41,8 +48,8 @@ pub trait Propagator: Drop {
         ensures meaning { meaning self.new ≡ meaning self.old }
         ensures stands { StandsFor (stands self.new) (looked self.new) trail.now };
 
-    /// Sets what the constraint forces, each entry with its reason. It opens no level, and it makes at
-    /// most as many order literals as it adds entries.
+    /// Sets what the constraint forces, each entry with its reason. At `Quiet` it rests. It opens no
+    /// level, and it makes at most as many order literals as it adds entries.
     ///
     /// Want of memory leaves the entries that were added by then.
     fn propagate(&mut self, alloc: Global, trail: &mut Trail) -> Result<Outcome, Memory>

@@ -4,7 +4,7 @@ ghost use Rattle.trail.specs.Growth.{Grows};
 ghost use Rattle.propagator_core.specs.Meaning.{Meaning};
 ghost use Rattle.propagator_core.specs.Shown.{IsShown, IsConflict};
 ghost use Rattle.propagator_core.specs.Quiet.{Answers};
-ghost use Rattle.propagator_core.specs.Several.{some_valid, AllFit, AllStand, AllQuiet};
+ghost use Rattle.propagator_core.specs.Several.{some_valid, AllFit, AllStand, AllQuiet, AllRest};
 ghost use Rattle.propagator_core.specs.Turns.{Turns, turn_after};
 
 use crate::outcome::Outcome;
@@ -93,6 +93,7 @@ pub fn propagate_all<P: Propagator>(
     ensures grows { Grows (IsShown (some_valid (map P.meaning all.old))) trail.old trail.new }
     ensures conflict { IfOk result (λ found. IfSome found (λ reason. IsConflict (some_valid (map P.meaning all.old)) trail.new reason)) }
     ensures quiet { IfOk result (λ found. IfNone found (AllQuiet (map P.meaning all.old) trail.new)) }
+    ensures rest { IfOk result (λ found. IfNone found (AllRest (map P.meaning all.old) trail.new)) }
 {
     let mut at = 0;
     'turns: loop {

@@ -1,7 +1,7 @@
 use Rattle.std.proofs.Common.{map, ◌∙◌, rules}
 use Rattle.propagator_core.specs.Shown.{IsShown}
 use Rattle.propagator_core.specs.Several.{some_valid}
-use Rattle.propagator_core.proofs.SeveralLaws.{fit_on, grows_turn, one_more_quiet, none_quiet, count_of}
+use Rattle.propagator_core.proofs.SeveralLaws.{fit_on, grows_turn, one_more_done, none_done, count_of}
 use Rattle.propagator_core.proofs.several.propagate_all.Goals as goal
 
 pub take_turn-requires-clause-fit : goal.take_turn-requires-clause-fit
@@ -29,7 +29,7 @@ turns-preserved-in-Ok-Grown g c =
       meanings = c.take_turn.ensures.meanings ∙ c.turns.invariant.meanings;
       stand = c.take_turn.ensures.stand;
       grows = grows_turn ms (map f c.turns.all) c.args.trail.now c.turns.trail c.take_turn.new.trail c.turns.invariant.grows c.turns.invariant.meanings c.take_turn.ensures.grows;
-      quiet = none_quiet ms c.take_turn.new.trail;
+      done = none_done ms c.take_turn.new.trail;
     }
 
 pub turns-preserved : goal.turns-preserved
@@ -41,5 +41,5 @@ turns-preserved g c =
       meanings = c.take_turn.ensures.meanings ∙ c.turns.invariant.meanings;
       stand = c.take_turn.ensures.stand;
       grows = grows_turn ms (map f c.turns.all) c.args.trail.now c.turns.trail c.take_turn.new.trail c.turns.invariant.grows c.turns.invariant.meanings c.take_turn.ensures.grows;
-      quiet = one_more_quiet ms (map f c.turns.all) c.turns.at c.turns.trail c.take_turn.new.trail c.turns.invariant.meanings c.turns.invariant.quiet (search rules);
+      done = one_more_done ms (map f c.turns.all) c.turns.at c.turns.trail c.take_turn.new.trail c.turns.invariant.meanings c.turns.invariant.done (search rules);
     }

@@ -2,7 +2,7 @@ use Rattle.std.proofs.Common.{◌≡◌, ◌+◌, ◌-◌, ◌*◌, ◌^◌, ◌
 use Rattle.trail.specs.Growth.{Grows}
 use Rattle.propagator_core.specs.Shown.{IsShown}
 use Rattle.propagator_core.specs.Several.{AllStand, some_valid}
-use Rattle.propagator_core.specs.Turns.{FirstQuiet}
+use Rattle.propagator_core.specs.Turns.{FirstDone}
 use Rattle.propagator_core.proofs.several.propagate_all.Given as goal
 
 abbrev pub invariant-turns : goal.invariant-turns
@@ -14,7 +14,7 @@ invariant-turns g l =
       meanings : map P.meaning l.all ≡ ms;
       stand : AllStand P.stands P.looked l.all l.trail;
       grows : Grows (IsShown (some_valid ms)) l.fn.trail l.trail;
-      quiet : FirstQuiet ms l.at l.trail;
+      done : FirstDone ms l.at l.trail;
     }
 
 abbrev pub decreases-turns : goal.decreases-turns
