@@ -1,11 +1,11 @@
 -- What a list of literals, set one after another from the ends on, makes known.
-use Rattle.std.specs.Prelude.{ℕ, ◌+◌, ◌||◌, ◌==◌, Bool, true, false, cond, ℤ, int_le, List, [], ◌∷◌, Option, None, Some}
-use Rattle.std.specs.List.{fold, list_any}
-use Rattle.std.specs.Int.{int_max, int_min}
+use Rattle.std.specs.Prelude.{ℕ, ◌+◌, ◌||◌, Bool, true, false, cond, ℤ, int_le, List, [], ◌∷◌, Option, None, Some}
+use Rattle.std.specs.List.{list_any}
 use Rattle.symbols.specs.declared.ends.Ends.{Ends}
 use Rattle.literals.specs.declared.lit.Lit.{Lit}
 use Rattle.literals.specs.declared.lit.Lit.TheVariants.{Atom, Body, Constraint, AtMost, AtLeast}
 use Rattle.literals.specs.Lits.{implies_lit, complement_of}
+pub use Rattle.literals.specs.Bounds.{lower_after, upper_after, lower_of, upper_of}
 
 -- whether the ends of the variables imply the literal
 abbrev pub ends_imply : Ends → Lit → Bool
@@ -22,30 +22,6 @@ implied ends lits l = ends_imply ends l || list_any (λ m. implies_lit m l) lits
 -- true where the literal is implied, false where its opposite is, and else open
 abbrev pub truth_of : Ends → List Lit → Lit → Option Bool
 truth_of ends lits l = cond (implied ends lits l) (Some true) (cond (implied ends lits (complement_of l)) (Some false) None)
-
--- the lower bound of x after one more literal
-abbrev pub lower_after : ℕ → ℤ → Lit → ℤ
-lower_after x bound (Atom n sign) = bound
-lower_after x bound (Body n sign) = bound
-lower_after x bound (Constraint n sign) = bound
-lower_after x bound (AtMost y k) = bound
-lower_after x bound (AtLeast y k) = cond (y == x) (int_max bound k) bound
-
--- the upper bound of x after one more literal
-abbrev pub upper_after : ℕ → ℤ → Lit → ℤ
-upper_after x bound (Atom n sign) = bound
-upper_after x bound (Body n sign) = bound
-upper_after x bound (Constraint n sign) = bound
-upper_after x bound (AtMost y k) = cond (y == x) (int_min bound k) bound
-upper_after x bound (AtLeast y k) = bound
-
--- the greatest of the least end and of the lower bounds of x among these
-abbrev pub lower_of : Ends → List Lit → ℕ → ℤ
-lower_of ends lits x = fold (lower_after x) ends.min lits
-
--- the least of the greatest end and of the upper bounds of x among these
-abbrev pub upper_of : Ends → List Lit → ℕ → ℤ
-upper_of ends lits x = fold (upper_after x) ends.max lits
 
 -- the bound that the literal replaces, where these stand before it: none where it is no bound
 abbrev pub bound_before : Ends → List Lit → Lit → Option ℤ
