@@ -18,7 +18,7 @@ use Rattle.conflict_analysis.specs.Marked.{Board, place_of, mark_of, mark_at, ma
 use Rattle.conflict_analysis.specs.Runs.{Setting, Drain, Drains, SortsOut, LitOfMark, hole_link}
 use Rattle.conflict_analysis.proofs.BoardLaws.{set_there, set_else}
 use Rattle.conflict_analysis.proofs.Standing.{resolvent_at, canonical_of}
-use Rattle.conflict_analysis.proofs.TrailFacts.{by_ends}
+use Rattle.conflict_analysis.proofs.TrailFacts.{by_ends, names_complement}
 use Rattle.conflict_analysis.proofs.PendLaws.{has_without, without_has}
 use Rattle.conflict_analysis.proofs.ResolveLaws.{differ_push, replayed_push}
 
@@ -179,7 +179,7 @@ drain_hole s chain b lits kept p touched l h e d =
     }
   where
     hole : has_lit lits l ≡ true → since_on s.trail l ≡ None → IsHole s.trail (record { nogood = complement_of l ∷ []; step = Hole 0 })
-    hole f g = record { lit = complement_of l; step = refl; nogood = refl; by_ends = ap (ends_imply s.trail.shape.ends) (complement-complement l) ∙ by_ends s.trail l (d.named l f).1 g }
+    hole f g = record { lit = complement_of l; named = names_complement s.trail.shape l (d.named l f).0; step = refl; nogood = refl; by_ends = ap (ends_imply s.trail.shape.ends) (complement-complement l) ∙ by_ends s.trail l (d.named l f).1 g }
 
     apart : (k : Link) → has_lit lits k.pivot ≡ false → has_lit lits l ≡ true → same_lit k.pivot l ≡ false
     apart k f g = not_same (λ x. has_lit lits x ≡ false) k.pivot l f (λ q. clash (sym g ∙ q))

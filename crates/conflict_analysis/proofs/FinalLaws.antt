@@ -16,12 +16,12 @@ use Rattle.conflict_analysis.specs.declared.learned.Start.{Start}
 use Rattle.conflict_analysis.specs.declared.learned.Link.{Link}
 use Rattle.conflict_analysis.specs.declared.marks.Mark.{Mark}
 use Rattle.conflict_analysis.specs.declared.marks.Mark.TheVariants.{Clear, ByEnds, ByEntry}
-use Rattle.conflict_analysis.specs.Levels.{level_at, level_on, level_since, highest, IsAsserting}
+use Rattle.conflict_analysis.specs.Levels.{level_at, level_on, level_since, IsByEntry, highest, IsAsserting}
 use Rattle.conflict_analysis.specs.Chains.{replayed, nogood_of, IsUsable, PivotsDiffer}
 use Rattle.conflict_analysis.specs.Marked.{Board, Fits, place_of, mark_of, mark_at, marked_lit, high_count, high_one, is_high, IsMark, IsClear, IsBefore, IsPending, Pends}
 use Rattle.conflict_analysis.specs.Runs.{mark_since, Run, Runs, IsHit, IsSettled, IsFromPlace, Setting, Drain, Drains, highest_but, boards_with, LitOfMark}
 use Rattle.conflict_analysis.proofs.Standing.{standing_is, has_standing}
-use Rattle.literals.proofs.Puts.{joined-nil}
+use Rattle.literals.proofs.Puts.{joined-nil, all_joined}
 use Rattle.std.proofs.lemmas.List.{length-set}
 use Rattle.conflict_analysis.proofs.BoardLaws.{set_else}
 use Rattle.conflict_analysis.proofs.PlaceLaws.{has_place}
@@ -357,6 +357,7 @@ pub record IsLearned (held : List Held) (t : Assignment) (start : Start) (chain 
   pub replays : replayed held start chain ≡ Some nogood
   pub differ : PivotsDiffer chain
   pub named : AllByRecursion (Names t.shape) nogood
+  pub by_entries : AllByRecursion (IsByEntry t) nogood
   pub all_true : AllTrueOn t nogood
   pub asserts : (nogood ≡ []) ⊎ IsAsserting t nogood (highest_but t high nogood)
   pub empty : high ≡ 0 → nogood ≡ []
@@ -394,6 +395,7 @@ learned held t start chain after high b new kept nogood e left clear same = case
       replays = d.1.replays;
       differ = d.1.differ;
       named = all_of_has (Names t.shape) d.0 (λ x h. (d.1.named x h).0);
+      by_entries = subst (λ (ls : List Lit). AllByRecursion (IsByEntry t) ls) whole (subst (λ (ls : List Lit). AllByRecursion (IsByEntry t) ls) (sym same) (all_joined (IsByEntry t) [] kept tt d.1.kept_by));
       all_true = λ x c. (d.1.named x (has-contains d.0 x c)).1;
       asserts = asserts;
       empty = empty;

@@ -5,7 +5,7 @@ use Rattle.std.proofs.lemmas.Bool.Decides.{nat_tests}
 use Rattle.std.proofs.lemmas.Option.{slice_get_within, get_or_from_slice_get}
 use Rattle.literals.specs.declared.lit.Lit.{Lit}
 use Rattle.literals.specs.Lits.{implies_lit, same_lit, complement_of}
-use Rattle.literals.specs.Nogoods.{same_place, Rises, put_lit, joined, has_lit, without, answers, resolvent}
+use Rattle.literals.specs.Nogoods.{same_place, Rises, put_lit, joined, has_lit, without, answers, resolvent, resolved_with}
 use Rattle.literals.proofs.LitLaws.{same_refl, same_lit-equal, complement-complement}
 use Rattle.literals.proofs.OrderLaws.{implies_other}
 use Rattle.trail.specs.declared.shape.Shape.{Shape}
@@ -14,7 +14,7 @@ use Rattle.trail.specs.declared.entry.Why.{Why}
 use Rattle.trail.specs.declared.entry.Why.TheVariants.{Decision, Held as ByHeld, Shown as ByShown}
 use Rattle.trail.specs.Implied.{implied}
 use Rattle.trail.specs.Assignment.{Assignment, IsAssignment, Names, lits_of, is_true_on, since_on}
-use Rattle.trail.proofs.ImpliedLaws.{fold-push}
+use Rattle.literals.proofs.ChainLaws.{chain_push}
 use Rattle.nogood_store.specs.Holding.{Held}
 use Rattle.nogood_store.proofs.Members.{holds_of, contains-has, has-contains}
 use Rattle.conflict_analysis.specs.declared.learned.Start.{Start}
@@ -23,10 +23,10 @@ use Rattle.conflict_analysis.specs.declared.marks.Mark.{Mark}
 use Rattle.conflict_analysis.specs.declared.marks.Mark.TheVariants.{Clear, ByEnds, ByEntry}
 use Rattle.conflict_analysis.specs.Justified.{trail_of, IsReasonFor, Stands, IsJustified}
 use Rattle.conflict_analysis.specs.Levels.{level_at, level_on, level_since}
-use Rattle.conflict_analysis.specs.Chains.{nogood_of, linked, resolved_at, replayed, IsUsable, PivotsDiffer}
-use Rattle.conflict_analysis.specs.Marked.{Board, place_of, mark_of, mark_at, unmarked, marked_lit, is_high, high_one, high_count, IsMark, IsBefore, IsPending, Pends, standing}
+use Rattle.conflict_analysis.specs.Chains.{nogood_of, linked, replayed, IsUsable, PivotsDiffer}
+use Rattle.conflict_analysis.specs.Marked.{Board, HasPlace, place_of, mark_of, mark_at, unmarked, marked_lit, is_high, high_one, high_count, IsMark, IsBefore, IsPending, Pends, standing}
 use Rattle.conflict_analysis.specs.Runs.{mark_since, covers_lit, board_with, boards_with, nogood_by, IsFrom, IsHit, IsFromPlace, Run, Runs, IsLast, IsReady}
-use Rattle.conflict_analysis.proofs.PlaceLaws.{has_place}
+use Rattle.conflict_analysis.proofs.PlaceLaws.{has_place, is_placed}
 use Rattle.conflict_analysis.proofs.Standing.{standing_is, resolvent_at}
 use Rattle.conflict_analysis.proofs.TrailFacts.{before_since, before_true, since_entry, since_later, levels_rise, stands_at, lits_take, level_take}
 use Rattle.conflict_analysis.proofs.CountLaws.{count-set, count_some, level_read}
@@ -250,9 +250,9 @@ apart_later t at place x l h e f = cases (same_lit x l) refl
 
 pub replayed_push : (held : List Held) (first : Start) (chain : List Link) (k : Link) (lits n new : List Lit) → replayed held first chain ≡ Some lits → nogood_of held k.used ≡ Some n → resolvent lits k.pivot n ≡ Some new → replayed held first (chain ++ k ∷ []) ≡ Some new
 replayed_push held first chain k lits n new e f g =
-    fold-push (linked held) (nogood_of held first) chain k
+    chain_push (λ (j : Link). j.pivot) (λ (j : Link). nogood_of held j.used) (nogood_of held first) chain k
     ∙ ap (λ o. linked held o k) e
-    ∙ ap (resolved_at lits k.pivot) f
+    ∙ ap (λ o. resolved_with (Some lits) k.pivot o) f
     ∙ g
 
 answers_own : (e p : Lit) → implies_lit e p ≡ true → answers p (complement_of e) ≡ true
@@ -323,10 +323,10 @@ ready_least held t first chain high place l b count was a r ew on = left_least t
 pub ready_pends : (held : List Held) (t : Assignment) (first : Start) (chain : List Link) (high place : ℕ) (l : Lit) (b : Board) (count : ℕ) → IsAssignment t → (r : IsReady held t first chain high place l b count) → Pends t high place (without r.1.0 l) (unmarked b l)
 ready_pends held t first chain high place l b count a r = pends_unmarked t high r.0 r.1.0 b place l a r.1.1.pends r.2
 
-pub ready_place : (held : List Held) (t : Assignment) (first : Start) (chain : List Link) (high place : ℕ) (l : Lit) (b : Board) (count : ℕ) → IsAssignment t → IsReady held t first chain high place l b count → place_of b l < length b.marks
+pub ready_place : (held : List Held) (t : Assignment) (first : Start) (chain : List Link) (high place : ℕ) (l : Lit) (b : Board) (count : ℕ) → IsAssignment t → IsReady held t first chain high place l b count → HasPlace b l
 ready_place held t first chain high place l b count a r =
     let pending : IsPending t high r.0 l = holds_of (IsPending t high r.0) r.1.0 l r.1.1.pends.each (hit_has t high r.0 r.1.0 b place l a r.1.1.pends r.2.1).1 in
-    has_place t.shape b l r.1.1.pends.fits pending.named.within
+    is_placed t.shape b l r.1.1.pends.fits pending.named.within
 
 pub ready_run : (held : List Held) (t : Assignment) (first : Start) (chain after_chain : List Link) (high place : ℕ) (l : Lit) (b new : Board) (count after : ℕ) (e : Entry) (n lits : List Lit) (q : Lit) (used : Start)
     → IsAssignment t → IsReady held t first chain high place l b count → (0 < high → count ≡ 1 → ⊥)

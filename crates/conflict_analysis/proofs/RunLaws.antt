@@ -42,10 +42,10 @@ highest_but_next t high lits i most d h = ap (λ ls. max most (highest_but t hig
 
 -- a board that is written keeps its size and its marks
 pub fits_with : (s : Shape) (b : Board) (l : Lit) (m : Mark) → Fits s b → Fits s (marked_with b l m)
-fits_with s b l m f = record { bodies = f.bodies; constraints = f.constraints; bounds = f.bounds; size = length-set b.marks (place_of b l) m ∙ f.size }
+fits_with s b l m f = record { counts = f.counts; size = length-set b.marks (place_of b l) m ∙ f.size }
 
 pub fits_without : (s : Shape) (b : Board) (l : Lit) → Fits s b → Fits s (unmarked b l)
-fits_without s b l f = record { bodies = f.bodies; constraints = f.constraints; bounds = f.bounds; size = length-set b.marks (place_of b l) Clear ∙ f.size }
+fits_without s b l f = record { counts = f.counts; size = length-set b.marks (place_of b l) Clear ∙ f.size }
 
 pub marks_set : (t : Assignment) (ms : List Mark) (p : ℕ) (m : Mark) → p < length ms → ((i : ℕ) → IsMark t (get_or ms i Clear)) → IsMark t m → (i : ℕ) → IsMark t (get_or (set ms p m) i Clear)
 marks_set t ms p m h f k i = cases (p == i) refl

@@ -8,12 +8,12 @@ use Rattle.std.proofs.Math.Seq.{take-nil}
 use Rattle.std.proofs.lemmas.List.{length-take-le, take-append-drop}
 use Rattle.literals.specs.declared.lit.Lit.{Lit}
 use Rattle.literals.specs.declared.lit.Lit.TheVariants.{Atom, Body, Constraint, AtMost, AtLeast}
-use Rattle.literals.specs.Lits.{implies_lit}
+use Rattle.literals.specs.Lits.{implies_lit, complement_of}
 use Rattle.literals.proofs.OrderLaws.{implies_trans}
 use Rattle.trail.specs.declared.shape.Shape.{Shape}
 use Rattle.trail.specs.declared.entry.Entry.{Entry}
 use Rattle.trail.specs.Implied.{ends_imply, implied}
-use Rattle.trail.specs.Assignment.{Assignment, IsOf, Follow, IsAssignment, lits_of, is_true_on, since_on}
+use Rattle.trail.specs.Assignment.{Assignment, Names, IsOf, Follow, IsAssignment, lits_of, is_true_on, since_on}
 use Rattle.trail.proofs.ImpliedLaws.{implied_stays, implied_trans}
 use Rattle.trail.proofs.EntryLaws.{lit_at, length-lits_of}
 use Rattle.trail.proofs.SinceLaws.{true-since, since_found}
@@ -175,3 +175,11 @@ implies_of s (Constraint n x) (Constraint m y) = λ h i. grind (arith, nat_tests
 implies_of s (AtMost n x) (AtMost m y) = λ h i. grind (arith, nat_tests, ints)
 implies_of s (AtLeast n x) (AtLeast m y) = λ h i. grind (arith, nat_tests, ints)
 implies_of s _ _ = λ h i. cc
+
+-- the opposite of a literal of the shape is of the shape
+pub names_complement : (s : Shape) (l : Lit) → Names s l → Names s (complement_of l)
+names_complement s (Atom n b) h = record { literal = h.literal; within = h.within }
+names_complement s (Body n b) h = record { literal = h.literal; within = h.within }
+names_complement s (Constraint n b) h = record { literal = h.literal; within = h.within }
+names_complement s (AtMost x k) h = record { literal = (h.literal.0, omega (arith, ints, h.literal.1), omega (arith, ints, h.literal.2)); within = h.within }
+names_complement s (AtLeast x k) h = record { literal = (h.literal.0, omega (arith, ints, h.literal.1), omega (arith, ints, h.literal.2)); within = h.within }

@@ -1,11 +1,11 @@
 -- Chains of resolutions.
 use Rattle.std.specs.Prelude.{◌≡◌, true, false, ◌⊎◌, List, [], ◌∷◌, Option, None, Some}
-use Rattle.std.specs.List.{AllByRecursion, fold, Contains}
+use Rattle.std.specs.List.{AllByRecursion, Contains}
 use Rattle.literals.specs.declared.lit.Lit.{Lit}
 use Rattle.literals.specs.declared.reason.Step.TheVariants.{Hole}
 use Rattle.literals.specs.declared.reason.Reason.{Reason}
 use Rattle.literals.specs.Lits.{complement_of, same_lit}
-use Rattle.literals.specs.Nogoods.{resolvent}
+use Rattle.literals.specs.Nogoods.{resolved_with, chain_by}
 use Rattle.trail.specs.declared.entry.Entry.{Entry}
 use Rattle.trail.specs.declared.entry.Why.TheVariants.{Shown as ByShown}
 use Rattle.trail.specs.Implied.{ends_imply}
@@ -22,25 +22,24 @@ nogood_of held (FromHeld id) = nogood_under held id
 nogood_of held (FromShown r) = Some r.nogood
 
 abbrev pub resolved_at : List Lit → Lit → Option (List Lit) → Option (List Lit)
-resolved_at left pivot None = None
-resolved_at left pivot (Some right) = resolvent left pivot right
+resolved_at left pivot right = resolved_with (Some left) pivot right
 
 -- the nogood so far resolved with that of the link, at its pivot
 abbrev pub linked : List Held → Option (List Lit) → Link → Option (List Lit)
-linked held None k = None
-linked held (Some left) k = resolved_at left k.pivot (nogood_of held k.used)
+linked held so_far k = resolved_with so_far k.pivot (nogood_of held k.used)
 
 -- what the chain gives from the start on
 abbrev pub replayed : List Held → Start → List Link → Option (List Lit)
-replayed held first chain = fold (linked held) (nogood_of held first) chain
+replayed held first links = chain_by (λ (k : Link). k.pivot) (λ (k : Link). nogood_of held k.used) (nogood_of held first) links
 
 -- the reason is the shown one of an entry
 abbrev pub IsShown : Assignment → Reason → Type 0
 IsShown t r = (e : Entry) × Contains t.entries e × (e.why ≡ ByShown r)
 
--- the reason is that the ends leave no number for its one literal, so that its opposite is true by the ends
+-- the reason is that the ends leave no number for its one literal, a bound on a variable of the shape, so that its opposite is true by the ends
 pub record IsHole (t : Assignment) (r : Reason) : Type 0 where
   pub lit : Lit
+  pub named : Names t.shape lit
   pub step : r.step ≡ Hole 0
   pub nogood : r.nogood ≡ lit ∷ []
   pub by_ends : ends_imply t.shape.ends (complement_of lit) ≡ true

@@ -20,6 +20,10 @@ level_since es (Some i) = level_at es i
 abbrev pub level_on : Assignment → Lit → ℕ
 level_on t l = level_since t.entries (since_on t l)
 
+-- the literal became true by an entry, and not by the ends
+abbrev pub IsByEntry : Assignment → Lit → Type 0
+IsByEntry t l = (i : ℕ) × (since_on t l ≡ Some i)
+
 -- the greatest level of these literals, 0 where there is none
 abbrev pub highest : Assignment → List Lit → ℕ
 highest t [] = 0

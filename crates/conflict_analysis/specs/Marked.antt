@@ -1,30 +1,30 @@
 -- Marks of literals, laid out for reading at once. Only the code of this crate reads this file.
-use Rattle.std.specs.Prelude.{◌≡◌, ℕ, ◌+◌, ◌*◌, ◌==◌, ◌<◌, ◌≤◌, Bool, true, false, cond, List, [], ◌∷◌, ◌++◌, get_or, set, length, Option, None, Some}
-use Rattle.std.specs.List.{AllByRecursion, list_any, find}
+use Rattle.std.specs.Prelude.{◌≡◌, ℕ, ◌+◌, ◌==◌, ◌<◌, ◌≤◌, Bool, true, false, cond, List, [], ◌∷◌, ◌++◌, get_or, set, length, Option, None, Some}
+use Rattle.std.specs.List.{AllByRecursion, list_any}
 use Rattle.literals.specs.declared.lit.Lit.{Lit}
-use Rattle.literals.specs.declared.lit.Lit.TheVariants.{Atom, Body, Constraint, AtMost, AtLeast}
-use Rattle.literals.specs.Nogoods.{index_of, same_place, Rises}
+use Rattle.literals.specs.declared.places.Counts.{Counts}
+use Rattle.literals.specs.Nogoods.{Rises}
+use Rattle.literals.specs.Places as places
+pub use Rattle.literals.specs.Nogoods.{standing}
 use Rattle.trail.specs.declared.shape.Shape.{Shape}
-use Rattle.trail.specs.Assignment.{Assignment, Names, IsOf, is_true_on, since_on}
+use Rattle.trail.specs.Assignment.{Assignment, Names, IsOf, counts_of, is_true_on, since_on}
 use Rattle.conflict_analysis.specs.Levels.{level_at, level_on}
 use Rattle.conflict_analysis.specs.declared.marks.Mark.{Mark}
 use Rattle.conflict_analysis.specs.declared.marks.Mark.TheVariants.{Clear, ByEnds, ByEntry}
 
--- a mark for each literal of an atom, then each of a body, then each of a constraint, then each side of a variable; and the places that were marked
+-- a mark for each place of a literal, and the places that were marked
 pub record Board : Type 0 where
-  pub bodies_from : ℕ
-  pub constraints_from : ℕ
-  pub bounds_from : ℕ
+  pub counts : Counts
   pub marks : List Mark
   pub touched : List ℕ
 
 -- where the mark of the literal stands
 abbrev pub place_of : Board → Lit → ℕ
-place_of b (Atom n sign) = index_of (Atom n sign)
-place_of b (Body n sign) = b.bodies_from + index_of (Body n sign)
-place_of b (Constraint n sign) = b.constraints_from + index_of (Constraint n sign)
-place_of b (AtMost x k) = b.bounds_from + index_of (AtMost x k)
-place_of b (AtLeast x k) = b.bounds_from + index_of (AtLeast x k)
+place_of b l = places.place_of b.counts l
+
+-- the literal has a place, and a mark there
+abbrev pub HasPlace : Board → Lit → Type 0
+HasPlace b l = places.IsCounted b.counts l × (place_of b l < length b.marks)
 
 abbrev pub mark_at : Board → ℕ → Mark
 mark_at b i = get_or b.marks i Clear
@@ -35,10 +35,8 @@ mark_of b l = mark_at b (place_of b l)
 
 -- the board has a place for each literal of the shape
 pub record Fits (s : Shape) (b : Board) : Type 0 where
-  pub bodies : b.bodies_from ≡ 2 * (s.atoms + 1)
-  pub constraints : b.constraints_from ≡ 2 * (s.atoms + 1) + 2 * (s.bodies + 1)
-  pub bounds : b.bounds_from ≡ 2 * (s.atoms + 1) + 2 * (s.bodies + 1) + 2 * (s.constraints + 1)
-  pub size : length b.marks ≡ 2 * (s.atoms + 1) + 2 * (s.bodies + 1) + 2 * (s.constraints + 1) + 2 * (s.variables + 1)
+  pub counts : b.counts ≡ counts_of s
+  pub size : length b.marks ≡ places.places_of b.counts
 
 -- what was touched has a place, and what was not touched is clear
 pub record IsBoard (marks : List Mark) (touched : List ℕ) : Type 0 where
@@ -79,10 +77,6 @@ abbrev pub marked_lit : Mark → Option Lit
 marked_lit Clear = None
 marked_lit (ByEnds l) = Some l
 marked_lit (ByEntry l i) = Some l
-
--- the sorted list's literal at the place of this one
-abbrev pub standing : List Lit → Lit → Option Lit
-standing lits l = find (λ x. same_place x l) lits
 
 -- whether the mark is of a literal that became true by an entry of the level
 abbrev pub is_high : Assignment → ℕ → Mark → Bool

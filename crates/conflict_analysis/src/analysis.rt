@@ -2,10 +2,11 @@
 ghost use Rattle.std.specs.Prelude.{◌≡◌, ◌⊎◌, ℕ, [], List, Some, IfOk};
 ghost use Rattle.std.specs.List.{AllByRecursion};
 ghost use Rattle.literals.specs.declared.lit.Lit.{Lit};
+ghost use Rattle.trail.specs.Assignment.{Names};
 ghost use Rattle.trail.specs.Forced.{AllTrueOn};
 ghost use Rattle.conflict_analysis.specs.Justified.{IsJustified};
 ghost use Rattle.conflict_analysis.specs.Levels as level;
-ghost use Rattle.conflict_analysis.specs.Levels.{IsAsserting};
+ghost use Rattle.conflict_analysis.specs.Levels.{IsByEntry, IsAsserting};
 ghost use Rattle.conflict_analysis.specs.Chains.{nogood_of, replayed, IsUsable, IsConflicting, PivotsDiffer};
 ghost use Rattle.conflict_analysis.specs.Runs.{Runs, IsSettled};
 ghost use Rattle.conflict_analysis.specs.declared.learned.Start.{Start as Begin};
@@ -66,6 +67,8 @@ pub fn analyse(
     ensures used { IfOk result (λ l. AllByRecursion (λ k. IsUsable store.now.held trail.now k.used) l.chain) }
     ensures replays { IfOk result (λ l. replayed store.now.held start l.chain ≡ Some l.nogood) }
     ensures once { IfOk result (λ l. PivotsDiffer l.chain) }
+    ensures named { IfOk result (λ l. AllByRecursion (Names trail.now.shape) l.nogood) }
+    ensures by_entries { IfOk result (λ l. AllByRecursion (IsByEntry trail.now) l.nogood) }
     ensures all_true { IfOk result (λ l. AllTrueOn trail.now l.nogood) }
     ensures asserting { IfOk result (λ l. (l.nogood ≡ []) ⊎ IsAsserting trail.now l.nogood l.level) }
     ensures lowest { IfOk result (λ l. l.nogood ≡ [] → l.level ≡ 0) }

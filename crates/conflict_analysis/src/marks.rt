@@ -1,8 +1,8 @@
 // Marks of the literals that were met.
 ghost use Rattle.std.specs.Prelude.{◌≡◌, ◌<◌, ◌^◌, ℕ, [], length, get_or, MatchOption, OnOk};
-ghost use Rattle.conflict_analysis.specs.Marked.{Fits, IsBoard, IsClear, Takes, place_of, mark_of, marked_with, unmarked};
+ghost use Rattle.conflict_analysis.specs.Marked.{Fits, IsBoard, IsClear, Takes, HasPlace, mark_of, marked_with, unmarked};
 
-use literals::Lit;
+use literals::{Counts, Lit, Places};
 use std::alloc::Global;
 use std::marker::Model;
 use symbols::Memory;
@@ -22,9 +22,7 @@ pub(crate) enum Mark {
 /// trails that it meets.
 #[derive(Debug, Drop)]
 pub struct Marks {
-    bodies_from: usize,
-    constraints_from: usize,
-    bounds_from: usize,
+    places: Places,
     marks: Vec<Mark>,
     touched: Vec<usize>,
 }
@@ -34,7 +32,7 @@ impl Model for Marks {
 
     ghost Value = { Board };
 
-    ghost view = { λ m. record { bodies_from = m.bodies_from; constraints_from = m.constraints_from; bounds_from = m.bounds_from; marks = m.marks.items; touched = m.touched.items } };
+    ghost view = { λ m. record { counts = m.places; marks = m.marks.items; touched = m.touched.items } };
 
     ghost invariant = { λ m. IsBoard m.marks.items m.touched.items };
 }
@@ -58,9 +56,12 @@ impl Marks {
     /// No marks, and no memory for them.
     pub fn new(alloc: Global) -> Marks {
         Marks {
-            bodies_from: 0,
-            constraints_from: 0,
-            bounds_from: 0,
+            places: Places::new(Counts {
+                atoms: 0,
+                bodies: 0,
+                constraints: 0,
+                variables: 0,
+            }),
             marks: Vec::new(alloc),
             touched: Vec::new(alloc),
         }
@@ -73,52 +74,32 @@ impl Marks {
         ensures clear { OnOk result (IsClear self.new) }
     {
         clear_all(&mut self.marks, &mut self.touched);
-        let bodies_from = 2 * (shape.atoms as usize + 1);
-        let constraints_from = bodies_from + 2 * (shape.bodies as usize + 1);
-        let bounds_from = constraints_from + 2 * (shape.constraints as usize + 1);
-        let size = bounds_from + 2 * (shape.variables as usize + 1);
+        let places = Places::new(shape.counts());
+        let size = places.count();
         if size != self.marks.len() {
             self.marks.clear();
             self.marks.resize(size, Mark::Clear)?;
         }
-        self.bodies_from = bodies_from;
-        self.constraints_from = constraints_from;
-        self.bounds_from = bounds_from;
+        self.places = places;
         Ok(())
-    }
-
-    // Where the mark of the literal stands.
-    #[inline]
-    fn place(&self, lit: Lit) -> usize
-        requires { place_of self.now lit < length self.now.marks }
-        ensures { result ≡ place_of self.now lit }
-    {
-        match lit {
-            Lit::Atom(n, sign) => 2 * n as usize + usize::from(!sign),
-            Lit::Body(n, sign) => self.bodies_from + (2 * n as usize + usize::from(!sign)),
-            Lit::Constraint(n, sign) => self.constraints_from
-                + (2 * n as usize + usize::from(!sign)),
-            Lit::AtMost(x, _) => self.bounds_from + 2 * x as usize,
-            Lit::AtLeast(x, _) => self.bounds_from + (2 * x as usize + 1),
-        }
     }
 
     /// The mark at the literal's place.
     #[inline]
     pub(crate) fn mark(&self, lit: Lit) -> Mark
-        requires { place_of self.now lit < length self.now.marks }
+        requires { HasPlace self.now lit }
         ensures mark { result ≡ mark_of self.now lit }
         ensures few { length self.now.marks < 2 ^ 64 }
     {
-        self.marks[self.place(lit)]
+        self.marks[self.places.place(lit)]
     }
 
     /// Marks the literal's place.
     pub(crate) fn set(&mut self, lit: Lit, mark: Mark) -> Result<(), Memory>
-        requires { place_of self.old lit < length self.old.marks }
+        requires { HasPlace self.old lit }
         ensures { OnOk result (self.new ≡ marked_with self.old lit mark) }
     {
-        let place = self.place(lit);
+        let place = self.places.place(lit);
         match self.marks[place] {
             Mark::Clear => {
                 self.touched.push(place)?;
@@ -134,10 +115,10 @@ impl Marks {
 
     /// Clears the literal's place.
     pub(crate) fn unset(&mut self, lit: Lit)
-        requires { place_of self.old lit < length self.old.marks }
+        requires { HasPlace self.old lit }
         ensures { self.new ≡ unmarked self.old lit }
     {
-        let place = self.place(lit);
+        let place = self.places.place(lit);
         self.marks[place] = Mark::Clear;
     }
 

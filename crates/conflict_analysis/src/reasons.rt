@@ -77,6 +77,6 @@ pub(crate) fn start_for(alloc: Global, why: &Why) -> Result<Start, Memory>
     match why {
         Why::Held(id) => Ok(Start::Held(*id)),
         Why::Shown(reason) => Ok(Start::Shown(copy_reason(alloc, reason)?)),
-        Why::Decision => Ok(Start::Held(0)),
+        Why::Decision => unreachable!(),
     }
 }

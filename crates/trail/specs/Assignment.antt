@@ -3,6 +3,7 @@ use Rattle.std.specs.Prelude.{◌≡◌, ℕ, ◌≤◌, nat_le, Bool, true, fal
 use Rattle.std.specs.List.{filter}
 use Rattle.literals.specs.declared.lit.Lit.{Lit}
 use Rattle.literals.specs.declared.lit.Lit.TheVariants.{Atom, Body, Constraint, AtMost, AtLeast}
+use Rattle.literals.specs.declared.places.Counts.{Counts}
 use Rattle.literals.specs.Lits.{IsLit}
 use Rattle.order_literals.specs.Orders.{OrderLits, with_literal}
 use Rattle.trail.specs.declared.shape.Shape.{Shape}
@@ -50,6 +51,10 @@ IsOf s (Body n sign) = n ≤ s.bodies
 IsOf s (Constraint n sign) = n ≤ s.constraints
 IsOf s (AtMost x k) = x ≤ s.variables
 IsOf s (AtLeast x k) = x ≤ s.variables
+
+-- how many there are of each kind
+abbrev pub counts_of : Shape → Counts
+counts_of s = record { atoms = s.atoms; bodies = s.bodies; constraints = s.constraints; variables = s.variables }
 
 -- a well formed literal of the shape
 pub record Names (s : Shape) (l : Lit) : Type 0 where

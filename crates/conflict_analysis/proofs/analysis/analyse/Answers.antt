@@ -39,6 +39,14 @@ pub returns-clause-once : goal.returns-clause-once
 returns-clause-once c =
     (learned c.args.store.now.held c.args.trail.now c.args.start c.resolve_from.new.chain c.drain.new.chain c.in_ok-high.high c.resolve_from.new.marks c.drain.new.marks c.in_ok-kept.kept c.in_ok-nogood.nogood c.in_ok-high.ensures.run c.in_ok-kept.ensures.left c.in_ok-kept.ensures.clear (c.in_ok-nogood.ensures.value ∙ ap canonical c.items.ensures)).differ
 
+pub returns-clause-named : goal.returns-clause-named
+returns-clause-named c =
+    (learned c.args.store.now.held c.args.trail.now c.args.start c.resolve_from.new.chain c.drain.new.chain c.in_ok-high.high c.resolve_from.new.marks c.drain.new.marks c.in_ok-kept.kept c.in_ok-nogood.nogood c.in_ok-high.ensures.run c.in_ok-kept.ensures.left c.in_ok-kept.ensures.clear (c.in_ok-nogood.ensures.value ∙ ap canonical c.items.ensures)).named
+
+pub returns-clause-by_entries : goal.returns-clause-by_entries
+returns-clause-by_entries c =
+    (learned c.args.store.now.held c.args.trail.now c.args.start c.resolve_from.new.chain c.drain.new.chain c.in_ok-high.high c.resolve_from.new.marks c.drain.new.marks c.in_ok-kept.kept c.in_ok-nogood.nogood c.in_ok-high.ensures.run c.in_ok-kept.ensures.left c.in_ok-kept.ensures.clear (c.in_ok-nogood.ensures.value ∙ ap canonical c.items.ensures)).by_entries
+
 pub returns-clause-all_true : goal.returns-clause-all_true
 returns-clause-all_true c =
     (learned c.args.store.now.held c.args.trail.now c.args.start c.resolve_from.new.chain c.drain.new.chain c.in_ok-high.high c.resolve_from.new.marks c.drain.new.marks c.in_ok-kept.kept c.in_ok-nogood.nogood c.in_ok-high.ensures.run c.in_ok-kept.ensures.left c.in_ok-kept.ensures.clear (c.in_ok-nogood.ensures.value ∙ ap canonical c.items.ensures)).all_true

@@ -6,7 +6,7 @@ use Rattle.literals.specs.Nogoods.{without}
 use Rattle.conflict_analysis.specs.Runs.{boards_with}
 use Rattle.conflict_analysis.specs.Marked.{Board, IsMark, mark_at, high_count}
 use Rattle.conflict_analysis.proofs.CountLaws.{entry_named}
-use Rattle.conflict_analysis.proofs.ResolveLaws.{reason_at, ready_no_decision, ready_left, ready_least, ready_pends, ready_run}
+use Rattle.conflict_analysis.proofs.ResolveLaws.{reason_at, ready_no_decision, ready_left, ready_least, ready_place, ready_pends, ready_run}
 use Rattle.conflict_analysis.proofs.resolve.resolve_at.Goals as goal
 
 pub start_for-requires : goal.start_for-requires
@@ -14,6 +14,9 @@ start_for-requires g c = ready_no_decision c.args.store.now.held c.args.trail.no
 
 pub recount-left-requires-clause-least : goal.recount-left-requires-clause-least
 recount-left-requires-clause-least g c = ready_least c.args.store.now.held c.args.trail.now g.first c.args.chain.now c.args.high c.args.hit.place c.args.hit.lit c.args.marks.now c.args.count c.is_high-was.result c.requires.0 c.requires.1.1.0 c.is_high-was.ensures
+
+pub unset-requires : goal.unset-requires
+unset-requires g c = ready_place c.args.store.now.held c.args.trail.now g.first c.args.chain.now c.args.high c.args.hit.place c.args.hit.lit c.args.marks.now c.args.count c.requires.0 c.requires.1.1.0
 
 pub complement-out-requires : goal.complement-out-requires
 complement-out-requires g c = (entry_named c.args.trail.now c.args.hit.place c.entry-entry.result.now c.requires.0 c.entry-entry.ensures).literal
