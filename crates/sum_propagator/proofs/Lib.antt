@@ -10,3 +10,4 @@ mod TestLaws
 mod Widths
 mod Moving
 mod Following
+mod Resting

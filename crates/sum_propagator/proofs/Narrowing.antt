@@ -31,7 +31,7 @@ use Rattle.sum_propagator.specs.Sides.{coefficient_of, low_in, high_in, at_least
 use Rattle.sum_propagator.specs.Reasons.{IsOrTrue, IsNeeded, Explains}
 use Rattle.sum_propagator.proofs.Ranges.{SaysLeast, SaysMost, implied-least, implied-most, range_is, Says}
 use Rattle.sum_propagator.proofs.Backing.{least_names, most_names, sum_beyond, sum_says, each_as}
-use Rattle.sum_propagator.proofs.Validity.{valid_by}
+use Rattle.sum_propagator.proofs.Validity.{valid_by, spelled}
 
 most_opposite : (i : Item) (k : ℤ) → complement_of (at_most i k) ≡ at_least i (k +ℤ pos 1)
 most_opposite (Value x c) k = refl
@@ -199,6 +199,7 @@ press_shown t number items most side at slack i l r on lt is limit w x =
           (beyond_limit (limit_of side most) (side_sum side (bounds_on t) items) (side_sum side (bounds_named t.shape.ends r.nogood) items) slack limit
           (sum_beyond side (bounds_on t) (bounds_named t.shape.ends r.nogood) items at slack x.covers lt
           (λ d. subst (λ (j : Item). (side_least side (bounds_on t) j +ℤ pos slack) <ℤ side_least side (bounds_named t.shape.ends r.nogood) j) (sym (is d)) (w.beyond r.nogood (x.has lt)))));
+      spelled = spelled t number items side at (complement_of l) r x;
       forces = forces_by t r l never (x.has lt) (reason_or_true t number items side at (complement_of l) r (inr on) x);
     }
 

@@ -34,7 +34,7 @@ use Rattle.sum_propagator.specs.Sides.{low_in, high_in, limit_of, side_sum, Rest
 use Rattle.sum_propagator.specs.Reasons.{IsOrTrue, Explains}
 use Rattle.sum_propagator.proofs.Ranges.{on_low, on_high, least-named, greatest-named}
 use Rattle.sum_propagator.proofs.Backing.{sum_covers, sum_says, each_as}
-use Rattle.sum_propagator.proofs.Validity.{valid_by, valid_cases, Excludes, side-true, side-false}
+use Rattle.sum_propagator.proofs.Validity.{valid_by, valid_cases, spelled, Excludes, side-true, side-false}
 use Rattle.sum_propagator.proofs.Narrowing.{reason_or_true, forces_by, grows_placed, items_of}
 use Rattle.sum_propagator.proofs.Forcing.{with_lit, bounds_with, follow_says, says_with, other_items, own_off, once_rec, one_lit, rests_rec}
 
@@ -50,6 +50,7 @@ excluded t number items most side r x h =
 pub conflict_here : (t : Assignment) (number : ℕ) (items : List Item) (most : ℤ) (side : Bool) (r : Reason) → truth_on t (Constraint number side) ≡ Some true → limit_of side most <ℤ side_sum side (bounds_on t) items → Explains t number items side (length items) (Constraint number side) r → IsConflict (valid_sum number items most) t r
 conflict_here t number items most side r on h x = record {
   is_valid = excluded t number items most side r x h;
+  spelled = spelled t number items side (length items) (Constraint number side) r x;
   all_true = λ l c. All-contains (λ m. is_true_on t m ≡ true) r.nogood l (All-from_recursion (λ m. is_true_on t m ≡ true) r.nogood
       (each_as (IsOrTrue t (Constraint number side)) (λ m. is_true_on t m ≡ true) r.nogood one (reason_or_true t number items side (length items) (Constraint number side) r (inl refl) x))) c;
 }
@@ -79,6 +80,7 @@ settle_shown t new number items most side r p n un h x places =
       reason = r;
       why = refl;
       is_valid = excluded t number items most side r x h;
+      spelled = spelled t number items side (length items) (Constraint number side) r x;
       forces = forces_by t r (Constraint number (not side))
           (ap (is_true_on t) back ∙ both_open t number side un)
           (ap (implied t.shape.ends r.nogood) back ∙ x.listed)

@@ -9,16 +9,18 @@ use Rattle.literals.specs.declared.lit.Lit.{Lit}
 use Rattle.literals.specs.declared.lit.Lit.TheVariants.{Atom, Body, Constraint, AtMost, AtLeast}
 use Rattle.literals.specs.declared.reason.Reason.{Reason}
 use Rattle.literals.specs.declared.reason.Step.TheVariants.{Sum}
+use Rattle.literals.specs.Steps.{IsStep}
 use Rattle.literals.specs.Lits.{implies_lit, same_lit}
-use Rattle.literals.specs.Nogoods.{has_lit, canonical, joined, put_lit, is_before, same_place, stronger}
+use Rattle.literals.specs.Nogoods.{Rises, has_lit, canonical, joined, put_lit, is_before, same_place, stronger}
 use Rattle.literals.proofs.OrderLaws.{implies_trans, implies_other}
 use Rattle.literals.proofs.LitLaws.{implies_refl}
-use Rattle.literals.proofs.Puts.{all_joined}
+use Rattle.literals.proofs.Puts.{all_joined, rises_joined}
 use Rattle.linear_normal.specs.declared.constraint.Item.{Item}
 use Rattle.linear_normal.specs.Bounds.{Bounds, bounds_named, greatest_item, least_sum, greatest_sum}
 use Rattle.trail.specs.declared.shape.Shape.{Shape}
 use Rattle.trail.specs.Implied.{ends_imply, implied}
 use Rattle.trail.specs.Assignment.{Assignment, Names}
+use Rattle.propagator_core.specs.Shown.{IsSpelled}
 use Rattle.sum_propagator.specs.Sums.{is_of, is_step_of, valid_sum}
 use Rattle.sum_propagator.specs.Sides.{limit_of, total_of, side_least, side_sum}
 use Rattle.sum_propagator.specs.Reasons.{Follow, IsOrTrue, Backs, Explains}
@@ -200,6 +202,7 @@ explains t number items side but instead lits r n b e step =
     let f = subst (λ (ls : List Lit). Follow t.shape.ends ls (Constraint number side ∷ b.more)) (sym same) (joined_follow t.shape.ends [] (Constraint number side ∷ b.more)) in
     record {
       step = step;
+      rises = subst Rises (sym same) (rises_joined [] (Constraint number side ∷ b.more) tt);
       names = subst (λ (ls : List Lit). AllByRecursion (Names t.shape) ls) (sym same) (all_joined (Names t.shape) [] (Constraint number side ∷ b.more) tt (n, b.names));
       listed = f.0;
       has = λ lt. b.has r.nogood f.1 lt;
@@ -208,3 +211,7 @@ explains t number items side but instead lits r n b e step =
           (all_joined (λ l. (l ≡ Constraint number side) ⊎ IsOrTrue t instead l) [] (Constraint number side ∷ b.more) tt
           (inl refl, each_as (IsOrTrue t instead) (λ l. (l ≡ Constraint number side) ⊎ IsOrTrue t instead l) b.more (λ m o. inr o) b.each));
     }
+
+-- and a line can tell it
+pub spelled : (t : Assignment) (number : ℕ) (items : List Item) (side : Bool) (but : ℕ) (instead : Lit) (r : Reason) → Explains t number items side but instead r → IsSpelled t.shape r
+spelled t number items side but instead r x = record { rises = x.rises; named = x.names; step = subst IsStep (sym x.step) tt }

@@ -61,7 +61,7 @@ greatest_opposite c low high =
     back : (x y : ℤ) → y ≡ neg_ℤ x → x ≡ neg_ℤ y
     back x y e = omega (arith, ints, e)
 
-greatest_turned : (b : Bounds) (i : Item) → side_greatest false b i ≡ neg_ℤ (least_item b i)
+pub greatest_turned : (b : Bounds) (i : Item) → side_greatest false b i ≡ neg_ℤ (least_item b i)
 greatest_turned b (Value x c) = greatest_opposite c (b.low x) (b.high x)
 greatest_turned b (Truth n c) = greatest_opposite c (b.least n) (b.greatest n)
 

@@ -5,6 +5,7 @@ use Rattle.symbols.specs.declared.ends.Ends.{Ends}
 use Rattle.literals.specs.declared.lit.Lit.{Lit}
 use Rattle.literals.specs.declared.lit.Lit.TheVariants.{Constraint}
 use Rattle.literals.specs.Lits.{complement_of}
+use Rattle.literals.specs.Nogoods.{Rises}
 use Rattle.literals.specs.declared.reason.Step.TheVariants.{Sum}
 use Rattle.literals.specs.declared.reason.Reason.{Reason}
 use Rattle.trail.specs.Implied.{implied}
@@ -55,6 +56,7 @@ pub record Backs (t : Assignment) (side : Bool) (items : List Item) (but : ℕ) 
 -- the reason has the constraint on this side, the other literal, and true literals on which the least values of the items but one stand
 pub record Explains (t : Assignment) (number : ℕ) (items : List Item) (side : Bool) (but : ℕ) (instead : Lit) (r : Reason) : Type 0 where
   pub step : r.step ≡ Sum number
+  pub rises : Rises r.nogood
   pub names : AllByRecursion (Names t.shape) r.nogood
   pub listed : implied t.shape.ends r.nogood (Constraint number side) ≡ true
   pub has : but < length items → implied t.shape.ends r.nogood instead ≡ true

@@ -1,5 +1,5 @@
 -- What a propagator of a sum stands for.
-use Rattle.std.specs.Prelude.{◌≡◌, ◌+ℤ◌, ◌≤ℤ◌, pos, IfSome, ℕ, ◌==◌, Bool, true, false, not, ◌&&◌, ◌||◌, ℤ, int_le, int_lt, List, [], ◌∷◌, Option, None, Some}
+use Rattle.std.specs.Prelude.{◌≡◌, ◌+ℤ◌, ◌≤ℤ◌, pos, IfSome, ℕ, ◌==◌, Bool, true, false, not, ◌&&◌, ◌||◌, ℤ, ◌-ℤ◌, int_le, int_lt, List, [], ◌∷◌, map, Option, None, Some}
 use Rattle.std.specs.List.{All, list_all, list_any}
 use Rattle.symbols.specs.declared.ends.Ends.{Ends}
 use Rattle.literals.specs.declared.lit.Lit.{Lit}
@@ -14,7 +14,9 @@ use Rattle.linear_normal.specs.Bounds.{Bounds, bounds_named, least_item, greates
 use Rattle.linear_normal.specs.Steps.{is_one_of, is_sum}
 use Rattle.trail.specs.declared.shape.Shape.{Shape}
 use Rattle.trail.specs.declared.entry.Entry.{Entry}
-use Rattle.trail.specs.Assignment.{Assignment, lits_of, is_true_on}
+use Rattle.trail.specs.Assignment.{Assignment, lits_of, is_true_on, truth_on}
+use Rattle.propagator_core.specs.declared.touch.Touch.{Touch}
+use Rattle.propagator_core.specs.declared.touch.Touch.TheVariants as touch
 use Rattle.propagator_core.specs.Meaning.{Meaning}
 use Rattle.sum_propagator.specs.declared.sum.Totals.{Totals}
 
@@ -79,6 +81,33 @@ settled_sum number items most t =
     (is_true_on t (l.Constraint number true) && int_le (greatest_sum (bounds_on t) items) most)
     || (is_true_on t (l.Constraint number false) && int_lt most (least_sum (bounds_on t) items))
 
+-- what the item counts
+abbrev pub touch_of : Item → Touch
+touch_of (Value x c) = touch.Bounds x
+touch_of (Truth n c) = touch.Truth n
+
+-- the sum's own truth, and what its items count
+abbrev pub touches_of : ℕ → List Item → List Touch
+touches_of number items = touch.Truth number ∷ map touch_of items
+
+-- the item's greatest value with the least sum of the others is at most the number
+abbrev pub is_below : Bounds → List Item → ℤ → Item → Bool
+is_below bounds items most item = int_le ((least_sum bounds items -ℤ least_item bounds item) +ℤ greatest_item bounds item) most
+
+-- the item's least value with the greatest sum of the others exceeds the number
+abbrev pub is_above : Bounds → List Item → ℤ → Item → Bool
+is_above bounds items most item = int_lt most ((greatest_sum bounds items -ℤ greatest_item bounds item) +ℤ least_item bounds item)
+
+-- a true sum can be at most the number, a false one can exceed it, whatever value an item takes within its bounds; an open one can do both
+abbrev pub is_consistent : Option Bool → Bounds → List Item → ℤ → Bool
+is_consistent (Some true) bounds items most = int_le (least_sum bounds items) most && list_all (is_below bounds items most) items
+is_consistent (Some false) bounds items most = int_lt most (greatest_sum bounds items) && list_all (is_above bounds items most) items
+is_consistent None bounds items most = int_le (least_sum bounds items) most && int_lt most (greatest_sum bounds items)
+
+-- by its truth on the trail the sum is consistent with the bounds there
+abbrev pub rests_sum : ℕ → List Item → ℤ → Assignment → Bool
+rests_sum number items most t = is_consistent (truth_on t (l.Constraint number true)) (bounds_on t) items most
+
 -- the constraint of this number: the sum of the items is at most a number
 abbrev pub sum_meaning : ℕ → List Item → ℤ → Meaning
 sum_meaning number items most = record {
@@ -87,6 +116,8 @@ sum_meaning number items most = record {
   valid = valid_sum number items most;
   counts = λ n. list_any (counts_truth n) items;
   settled = settled_sum number items most;
+  touches = touches_of number items;
+  rests = rests_sum number items most;
 }
 
 -- STATE

@@ -18,9 +18,10 @@ use crate::narrow::press;
 use crate::places::are_rising;
 use crate::reason::explain;
 use crate::sum::{Sum, Totals, coefficients, excluded, few, limit, total, totals_on, widest_on};
+use crate::touches::touches_of;
 use linear_normal::Item;
 use literals::Lit;
-use propagator_core::{Outcome, Propagator};
+use propagator_core::{Outcome, Propagator, Touch};
 use std::alloc::Global;
 use symbols::{Listed, Memory};
 use trail::{Trail, Why};
@@ -216,6 +217,10 @@ impl Propagator for SumPropagator {
 
     fn constraint(&self) -> u32 {
         self.sum.number
+    }
+
+    fn touches(&self, alloc: Global) -> Result<Listed<Touch>, Memory> {
+        touches_of(alloc, self.sum.number, self.sum.items.items())
     }
 
     fn seen(&self) -> usize {

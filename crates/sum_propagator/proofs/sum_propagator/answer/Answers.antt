@@ -4,7 +4,7 @@ use Rattle.std.proofs.lemmas.Int.{to_z-of_z}
 use Rattle.sum_propagator.specs.Sums.{bounds_on}
 use Rattle.sum_propagator.specs.Sides.{limit_of}
 use Rattle.sum_propagator.proofs.Validity.{side-total}
-use Rattle.sum_propagator.proofs.Settling.{quiet_open}
+use Rattle.sum_propagator.proofs.Resting.{done_open}
 use Rattle.sum_propagator.proofs.sum_propagator.answer.Goals as goal
 
 pub decided-requires-clause-total : goal.decided-requires-clause-total
@@ -22,6 +22,6 @@ pub returns-in-None-excluded-clause-answer : goal.returns-in-None-excluded-claus
 returns-in-None-excluded-clause-answer c =
     let fm : FitsSigned w128 c.args.sum.now.most = search rules in
     let h = simp to_z-of_z at c.in-None-excluded.ensures.none in
-    quiet_open c.args.trail.now c.args.sum.now.number c.args.sum.now.items c.args.sum.now.most c.requires.assignment c.args.sum.now.are_items c.requires.fits (sym c.truth.ensures ∙ c.in-None.is)
+    done_open c.args.trail.now c.args.sum.now.number c.args.sum.now.items c.args.sum.now.most c.requires.assignment c.args.sum.now.are_items c.requires.fits (sym c.truth.ensures ∙ c.in-None.is)
     (subst (λ (k : ℤ). k ≤ℤ limit_of true c.args.sum.now.most) (side-total true (bounds_on c.args.trail.now) c.args.sum.now.items c.args.totals.least c.args.totals.greatest c.requires.least c.requires.greatest) h.0)
     (subst (λ (k : ℤ). k ≤ℤ limit_of false c.args.sum.now.most) (side-total false (bounds_on c.args.trail.now) c.args.sum.now.items c.args.totals.least c.args.totals.greatest c.requires.least c.requires.greatest) h.1)

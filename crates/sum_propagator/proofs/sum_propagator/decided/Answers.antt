@@ -8,12 +8,13 @@ use Rattle.trail.specs.Assignment.{Assignment}
 use Rattle.trail.proofs.GrowthLaws.{grows_same, grows_length}
 use Rattle.propagator_core.specs.Shown.{IsShown}
 use Rattle.propagator_core.specs.Quiet.{IsQuiet}
-use Rattle.sum_propagator.specs.Sums.{is_item_of, valid_sum, sum_meaning, bounds_on, IsWithin}
+use Rattle.sum_propagator.specs.Sums.{is_item_of, valid_sum, sum_meaning, rests_sum, bounds_on, IsWithin}
 use Rattle.sum_propagator.specs.Sides.{limit_of, side_sum}
 use Rattle.sum_propagator.specs.Reasons.{Explains}
 use Rattle.sum_propagator.proofs.Narrowing.{items_of, fits_grows}
 use Rattle.sum_propagator.proofs.Widths.{all_rest}
-use Rattle.sum_propagator.proofs.Settling.{conflict_here, quiet_here, above_here, sum_is}
+use Rattle.sum_propagator.proofs.Settling.{conflict_here, above_here, sum_is}
+use Rattle.sum_propagator.proofs.Resting.{done_here}
 use Rattle.sum_propagator.proofs.sum_propagator.decided.Goals as goal
 
 pub returns-then-total-limit-clause-answer : goal.returns-then-total-limit-clause-answer
@@ -36,8 +37,8 @@ returns-then-length-before-clause-answer c =
     let h : (c.args.total +ℤ pos c.slack_of-slack.result) ≡ c.limit-limit.result = (let w = simp to_z-of_z at c.slack_of-slack.ensures in w) in
     let length_is : length c.press.new.trail.entries ≡ length c.args.trail.now.entries = sym c.length.ensures.value ∙ c.if-length-before.true ∙ c.length-before.ensures.value in
     let same : c.press.new.trail ≡ c.args.trail.now = grows_same (IsShown (valid_sum c.args.sum.now.number c.args.sum.now.items c.args.sum.now.most)) c.args.trail.now c.press.new.trail c.press.ensures.grows length_is in
-    subst (λ (t : Assignment). IsQuiet (sum_meaning c.args.sum.now.number c.args.sum.now.items c.args.sum.now.most) t) (sym same)
-    (quiet_here c.args.trail.now c.args.sum.now.number c.args.sum.now.items c.args.sum.now.most c.args.side c.slack_of-slack.result c.requires.assignment c.args.sum.now.are_items c.requires.fits c.requires.on
+    subst (λ (t : Assignment). IsQuiet (sum_meaning c.args.sum.now.number c.args.sum.now.items c.args.sum.now.most) t × IsTrue (rests_sum c.args.sum.now.number c.args.sum.now.items c.args.sum.now.most t)) (sym same)
+    (done_here c.args.trail.now c.args.sum.now.number c.args.sum.now.items c.args.sum.now.most c.args.side c.slack_of-slack.result c.requires.assignment c.args.sum.now.are_items c.requires.fits c.requires.on
     (sum_is (limit_of c.args.side c.args.sum.now.most) c.limit-limit.result c.args.total (side_sum c.args.side (bounds_on c.args.trail.now) c.args.sum.now.items) c.slack_of-slack.result e c.requires.total h)
     (c.in_ok-press.ensures.rest same))
 
@@ -56,7 +57,7 @@ returns-then-is_at_most-clause-answer c =
     let fl : FitsSigned w128 c.limit-limit.result = search rules in
     let e = simp to_z-of_z at c.limit-limit.ensures.value in
     let h : (c.args.total +ℤ pos c.slack_of-slack.result) ≡ c.limit-limit.result = (let w = simp to_z-of_z at c.slack_of-slack.ensures in w) in
-    quiet_here c.args.trail.now c.args.sum.now.number c.args.sum.now.items c.args.sum.now.most c.args.side c.slack_of-slack.result c.requires.assignment c.args.sum.now.are_items c.requires.fits c.requires.on
+    done_here c.args.trail.now c.args.sum.now.number c.args.sum.now.items c.args.sum.now.most c.args.side c.slack_of-slack.result c.requires.assignment c.args.sum.now.are_items c.requires.fits c.requires.on
     (sum_is (limit_of c.args.side c.args.sum.now.most) c.limit-limit.result c.args.total (side_sum c.args.side (bounds_on c.args.trail.now) c.args.sum.now.items) c.slack_of-slack.result e c.requires.total h)
     (all_rest c.args.side (bounds_on c.args.trail.now) c.args.sum.now.items c.args.widest.now c.slack_of-slack.result c.requires.widest (c.is_at_most.ensures c.if-is_at_most.true))
 
