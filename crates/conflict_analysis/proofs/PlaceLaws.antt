@@ -7,7 +7,7 @@ use Rattle.literals.specs.Places.{IsCounted}
 use Rattle.literals.proofs.PlaceLaws as laws
 use Rattle.trail.specs.declared.shape.Shape.{Shape}
 use Rattle.trail.specs.Assignment.{IsOf}
-use Rattle.trail.proofs.EntryLaws.{of_counted}
+use Rattle.trail.proofs.ShapeLaws.{of_counted}
 use Rattle.conflict_analysis.specs.Marked.{Board, Fits, HasPlace, place_of}
 
 counted : (s : Shape) (b : Board) (l : Lit) → Fits s b → IsOf s l → IsCounted b.counts l

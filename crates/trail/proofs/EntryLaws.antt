@@ -3,14 +3,12 @@ use Rattle.std.proofs.Common.{◌≡◌, ℕ, zero, suc, ◌+◌, ◌<◌, ◌�
 use Rattle.std.specs.List.{list_any}
 use Rattle.std.proofs.lemmas.List.{append-nil}
 use Rattle.literals.specs.declared.lit.Lit.{Lit}
-use Rattle.literals.specs.declared.lit.Lit.TheVariants.{Atom, Body, Constraint, AtMost, AtLeast}
 use Rattle.literals.specs.Lits.{implies_lit}
-use Rattle.literals.specs.Places.{IsCounted}
 use Rattle.literals.proofs.LitLaws.{implies_refl}
 use Rattle.trail.specs.declared.shape.Shape.{Shape}
 use Rattle.trail.specs.declared.entry.Entry.{Entry}
 use Rattle.trail.specs.Implied.{ends_imply, truth_of, first_from}
-use Rattle.trail.specs.Assignment.{Assignment, lits_of, IsOf, counts_of, Names, Follow, IsAssignment, since_on}
+use Rattle.trail.specs.Assignment.{Assignment, lits_of, Names, Follow, IsAssignment, since_on}
 use Rattle.trail.proofs.ImpliedLaws.{open_is}
 use Rattle.trail.proofs.KeptLaws.{follow_low}
 
@@ -79,11 +77,3 @@ since-own t i d h lt =
     in
     let none : 0 + i ≡ i = omega arith in
     rw parts.0 (first_at 0 (lits_of t.entries) i (get_or t.entries i d).lit within parts.1 own ∙ ap Some none)
-
--- a literal of the shape is one of those that are counted
-pub of_counted : (s : Shape) (l : Lit) → IsOf s l → IsCounted (counts_of s) l
-of_counted s (Atom n sign) h = h
-of_counted s (Body n sign) h = h
-of_counted s (Constraint n sign) h = h
-of_counted s (AtMost x k) h = h
-of_counted s (AtLeast x k) h = h

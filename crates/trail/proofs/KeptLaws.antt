@@ -7,6 +7,7 @@ use Rattle.std.proofs.lemmas.Int.{ints}
 use Rattle.std.proofs.lemmas.List.{append-nil, length-replicate}
 use Rattle.literals.specs.declared.lit.Lit.{Lit}
 use Rattle.literals.specs.declared.lit.Lit.TheVariants.{Atom, Body, Constraint, AtMost, AtLeast}
+use Rattle.literals.specs.Places.{places_of}
 use Rattle.order_literals.specs.Orders.{OrderLits, with_literal, is_made}
 use Rattle.symbols.specs.declared.ends.Ends.{Ends}
 use Rattle.trail.specs.declared.shape.Shape.{Shape}
@@ -14,10 +15,10 @@ use Rattle.trail.specs.declared.entry.Entry.{Entry}
 use Rattle.trail.specs.declared.entry.Why.{Why}
 use Rattle.trail.specs.declared.entry.Slot.{Slot}
 use Rattle.trail.specs.Implied.{truth_of}
-use Rattle.trail.specs.Assignment.{Assignment, lits_of, IsOf, Names, Follow, undone_to, IsAssignment, orders_with, with_entry, entry_of}
-use Rattle.trail.specs.Cells.{Layout, mark_place, HasPlace, saved_in, mark_in, applied, reverted, with_sign, end_pairs}
-use Rattle.trail.specs.Kept.{latest, ShowsCell, Shows, SavesBound, Saved, entries_of, IsTrail, IsBoundOf}
-use Rattle.trail.proofs.CellLaws.{has_place, has_mark, saved-shown}
+use Rattle.trail.specs.Assignment.{Assignment, lits_of, counts_of, Names, Follow, undone_to, IsAssignment, orders_with, with_entry, entry_of}
+use Rattle.trail.specs.Cells.{Layout, is_fact, slot_of, HasPlace, saved_in, mark_in, applied, reverted, end_pairs}
+use Rattle.trail.specs.Kept.{latest, Shows, SavesBound, Saved, entries_of, IsTrail, IsBoundOf}
+use Rattle.trail.proofs.CellLaws.{has_place, saved-shown}
 use Rattle.trail.proofs.AppliedLaws.{fits-applied, shows-applied}
 use Rattle.trail.proofs.RevertedLaws.{fits-reverted, shows-reverted}
 
@@ -160,9 +161,6 @@ trail_pop s level ts a ordered t h =
 pub last_place : (s : Shape) (level : ℕ) (ts : List Slot) (a : Layout) (ordered : ℕ) (t : Slot) → IsTrail s level (ts ++ t ∷ []) a ordered → HasPlace a t.entry.lit
 last_place s level ts a ordered t h = has_place s a t.entry.lit h.fits (popped s level ts a ordered t h).1.within
 
-pub last_mark : (s : Shape) (level : ℕ) (ts : List Slot) (a : Layout) (ordered : ℕ) (t : Slot) → IsTrail s level (ts ++ t ∷ []) a ordered → mark_place a t.entry.lit < length a.marks
-last_mark s level ts a ordered t h = has_mark s a t.entry.lit h.fits (popped s level ts a ordered t h).1.within
-
 pub trail_raise : (s : Shape) (level higher : ℕ) (ts : List Slot) (a : Layout) (ordered : ℕ) → level ≤ higher → IsTrail s level ts a ordered → IsTrail s higher ts a ordered
 trail_raise s level higher ts a ordered le h = record { fits = h.fits; shows = h.shows; saved = h.saved; entries = follow_raise s [] 0 (entries_of ts) level higher le h.entries; variables = h.variables }
 
@@ -211,32 +209,33 @@ get_none zero i = refl
 get_none (suc m) zero = refl
 get_none (suc m) (suc i) = get_none m i
 
-new_cell : (s : Shape) (a : Layout) (m : ℕ) → a.truths ≡ replicate m None → a.bounds ≡ end_pairs (s.variables + 1) s.ends.min s.ends.max → (l : Lit) → IsOf s l → ShowsCell s.ends [] a l
-new_cell s a m truths pairs (Atom n r) i = ap (λ xs. with_sign r (get_or xs n None)) truths ∙ ap (with_sign r) (get_none m n)
-new_cell s a m truths pairs (Body n r) i = ap (λ xs. with_sign r (get_or xs (a.bodies_from + n) None)) truths ∙ ap (with_sign r) (get_none m (a.bodies_from + n))
-new_cell s a m truths pairs (Constraint n r) i = ap (λ xs. with_sign r (get_or xs (a.constraints_from + n) None)) truths ∙ ap (with_sign r) (get_none m (a.constraints_from + n))
-new_cell s a m truths pairs (AtMost x k) i = ap (λ xs. get_or xs (2 * x) (pos 0)) pairs ∙ upper_end (s.variables + 1) x s.ends.min s.ends.max (pos 0) (omega arith)
-new_cell s a m truths pairs (AtLeast x k) i = ap (λ xs. get_or xs (2 * x + 1) (pos 0)) pairs ∙ lower_end (s.variables + 1) x s.ends.min s.ends.max (pos 0) (omega arith)
-
 -- the cells of a trail with no entry
-pub trail_new : (s : Shape) (a : Layout) (m n : ℕ) → a.bodies_from ≡ s.atoms + 1 → a.constraints_from ≡ s.atoms + 1 + (s.bodies + 1) → a.bounds_from ≡ s.atoms + 1 + (s.bodies + 1) + (s.constraints + 1) → m ≡ s.atoms + 1 + (s.bodies + 1) + (s.constraints + 1) → n ≡ s.atoms + 1 + (s.bodies + 1) + (s.constraints + 1) + 2 * (s.variables + 1) → a.truths ≡ replicate m None → a.bounds ≡ end_pairs (s.variables + 1) s.ends.min s.ends.max → a.marks ≡ replicate n None → IsTrail s 0 [] a s.variables
-trail_new s a m n bodies constraints bounds total whole truths pairs marks = record {
+pub trail_new : (s : Shape) (a : Layout) → a.counts ≡ counts_of s → a.truths ≡ replicate (places_of (counts_of s)) None → a.bounds ≡ end_pairs (s.variables + 1) s.ends.min s.ends.max → a.marks ≡ replicate (places_of (counts_of s)) None → IsTrail s 0 [] a s.variables
+trail_new s a counts truths pairs marks = record {
   fits = record {
-    bodies = bodies;
-    constraints = constraints;
-    bounds = bounds;
-    truths = ap length truths ∙ length-replicate m None ∙ total;
+    counts = counts;
+    truths = ap length truths ∙ length-replicate (places_of (counts_of s)) None ∙ ap places_of (sym counts);
     pairs = ap length pairs ∙ length-end_pairs (s.variables + 1) s.ends.min s.ends.max;
-    marks = ap length marks ∙ length-replicate n None ∙ whole;
+    marks = ap length marks ∙ length-replicate (places_of (counts_of s)) None ∙ ap places_of (sym counts);
   };
   shows = record {
-    cell = new_cell s a m truths pairs;
-    mark = λ l i. ap (λ xs. get_or xs (mark_place a l) None) marks ∙ get_none n (mark_place a l);
+    truth = λ l i fact. ap (λ xs. get_or xs (slot_of a l) None) truths ∙ get_none (places_of (counts_of s)) (slot_of a l) ∙ sym (open_first s.ends l fact);
+    upper = λ x i. ap (λ xs. get_or xs (2 * x) (pos 0)) pairs ∙ upper_end (s.variables + 1) x s.ends.min s.ends.max (pos 0) (omega arith);
+    lower = λ x i. ap (λ xs. get_or xs (2 * x + 1) (pos 0)) pairs ∙ lower_end (s.variables + 1) x s.ends.min s.ends.max (pos 0) (omega arith);
+    mark = λ l i. ap (λ xs. get_or xs (slot_of a l) None) marks ∙ get_none (places_of (counts_of s)) (slot_of a l);
   };
   saved = tt;
   entries = omega arith;
   variables = refl;
 }
+  where
+    -- no literal decides a fact before the first
+    open_first : (ends : Ends) (l : Lit) → is_fact l ≡ true → truth_of ends [] l ≡ None
+    open_first ends (Atom n r) e = refl
+    open_first ends (Body n r) e = refl
+    open_first ends (Constraint n r) e = refl
+    open_first ends (AtMost x k) e = cc
+    open_first ends (AtLeast x k) e = cc
 
 -- a bound of the shape makes an order literal of the shape
 pub bound_of : (s : Shape) (variables : ℕ) (l : Lit) → variables ≡ s.variables → Names s l → IsBoundOf variables l

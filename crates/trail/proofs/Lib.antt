@@ -8,3 +8,4 @@ pub mod AssignmentLaws
 pub mod SinceLaws
 pub mod EntryLaws
 pub mod ReplacedLaws
+pub mod ShapeLaws

@@ -2,19 +2,17 @@
 use Rattle.std.proofs.Common.{◌≡◌, ℕ, zero, suc, ◌+◌, ◌<◌, ◌≤◌, ◌||◌, Bool, true, false, cond, List, [], ◌∷◌, ◌++◌, length, take, get_or, Option, None, Some, refl, sym, ◌∙◌, ap, subst, arith, append_assoc}
 use Rattle.std.specs.Prelude.{is_some}
 use Rattle.std.specs.List.{list_any}
-use Rattle.std.proofs.lemmas.Bool.Decides.{nat_tests}
-use Rattle.std.proofs.lemmas.Int.{ints}
 use Rattle.std.proofs.lemmas.List.{append-nil, take_more, take_all, length-take-le}
 use Rattle.symbols.specs.declared.ends.Ends.{Ends}
 use Rattle.literals.specs.declared.lit.Lit.{Lit}
-use Rattle.literals.specs.declared.lit.Lit.TheVariants.{Atom, Body, Constraint, AtMost, AtLeast}
 use Rattle.literals.specs.Lits.{implies_lit, complement_of}
-use Rattle.literals.proofs.OrderLaws.{implies_trans}
+use Rattle.literals.specs.Nogoods.{same_place}
+use Rattle.literals.proofs.OrderLaws.{implies_trans, implies_other}
 use Rattle.trail.specs.declared.shape.Shape.{Shape}
 use Rattle.trail.specs.declared.entry.Slot.{Slot}
 use Rattle.trail.specs.Implied.{ends_imply, implied, truth_of, first_from}
 use Rattle.trail.specs.Assignment.{Assignment, lits_of, Follow, is_true_on, since_on}
-use Rattle.trail.specs.Kept.{same_cell, latest, Saved, entries_of, Outdoes, Marked, AreMarked}
+use Rattle.trail.specs.Kept.{latest, Saved, entries_of, Outdoes, Marked, AreMarked}
 use Rattle.trail.proofs.ImpliedLaws.{open_is}
 use Rattle.trail.proofs.CellLaws.{apart_implies, latest-push, latest_same, cell_same}
 
@@ -40,11 +38,11 @@ first-push place (x ∷ xs) m l = cases (implies_lit x l) (first-push (place + 1
     cases false h = let e : (place + 1) + length xs ≡ place + suc (length xs) = omega arith in h ∙ ap (λ i. first_some (first_from (place + 1) xs l) (cond (implies_lit m l) (Some i) None)) e
 
 -- one literal more of a list
-latest-more : (lits : List Lit) (n : ℕ) (l : Lit) → n < length lits → latest (take (n + 1) lits) l ≡ cond (same_cell (get_or lits n l) l) (Some n) (latest (take n lits) l)
+latest-more : (lits : List Lit) (n : ℕ) (l : Lit) → n < length lits → latest (take (n + 1) lits) l ≡ cond (same_place (get_or lits n l) l) (Some n) (latest (take n lits) l)
 latest-more lits n l h =
     ap (λ ls. latest ls l) (take_more lits n l h)
     ∙ latest-push (take n lits) (get_or lits n l) l
-    ∙ ap (λ i. cond (same_cell (get_or lits n l) l) (Some i) (latest (take n lits) l)) (length-take-le n lits (omega arith))
+    ∙ ap (λ i. cond (same_place (get_or lits n l) l) (Some i) (latest (take n lits) l)) (length-take-le n lits (omega arith))
 
 first-more : (lits : List Lit) (n : ℕ) (l : Lit) → n < length lits → first_from 0 (take (n + 1) lits) l ≡ first_some (first_from 0 (take n lits) l) (cond (implies_lit (get_or lits n l) l) (Some n) None)
 first-more lits n l h =
@@ -63,14 +61,14 @@ none_before lits l (suc n) h e =
     let one : suc n ≡ n + 1 = omega arith in
     ap (λ i. first_from 0 (take i lits) l) one
     ∙ first-more lits n l (omega arith)
-    ∙ cases (same_cell (get_or lits n l) l) refl (sym (latest-more lits n l (omega arith)) ∙ ap (λ i. latest (take i lits) l) (sym one) ∙ e) (λ f. none_before lits l n (omega arith) f)
+    ∙ cases (same_place (get_or lits n l) l) refl (sym (latest-more lits n l (omega arith)) ∙ ap (λ i. latest (take i lits) l) (sym one) ∙ e) (λ f. none_before lits l n (omega arith) f)
   where
-    cases : (b : Bool) → same_cell (get_or lits n l) l ≡ b → cond b (Some n) (latest (take n lits) l) ≡ None → (latest (take n lits) l ≡ None → first_from 0 (take n lits) l ≡ None) → first_some (first_from 0 (take n lits) l) (cond (implies_lit (get_or lits n l) l) (Some n) None) ≡ None
+    cases : (b : Bool) → same_place (get_or lits n l) l ≡ b → cond b (Some n) (latest (take n lits) l) ≡ None → (latest (take n lits) l ≡ None → first_from 0 (take n lits) l ≡ None) → first_some (first_from 0 (take n lits) l) (cond (implies_lit (get_or lits n l) l) (Some n) None) ≡ None
     cases true c f rest = clash f
     cases false c f rest = rw (apart_implies (get_or lits n l) l c, rest f) refl
 
 -- where a literal of the cell outdoes these and does not imply l, none of them does
-none_outdone : (place : ℕ) (before : List Lit) (q l : Lit) → Outdoes before q → same_cell q l ≡ true → implies_lit q l ≡ false → first_from place before l ≡ None
+none_outdone : (place : ℕ) (before : List Lit) (q l : Lit) → Outdoes before q → same_place q l ≡ true → implies_lit q l ≡ false → first_from place before l ≡ None
 none_outdone place [] q l o c e = refl
 none_outdone place (m ∷ ms) q l o c e = rw (not_by (implies_lit m l) refl) (none_outdone (place + 1) ms q l o.1 c e)
   where
@@ -78,12 +76,12 @@ none_outdone place (m ∷ ms) q l o c e = rw (not_by (implies_lit m l) refl) (no
     shut x = cc
 
     -- what implies l is of its cell
-    of_cell : (b : Bool) → same_cell m l ≡ b → implies_lit m l ≡ true → same_cell m l ≡ true
+    of_cell : (b : Bool) → same_place m l ≡ b → implies_lit m l ≡ true → same_place m l ≡ true
     of_cell true f i = f
     of_cell false f i = absurd (shut (sym i ∙ apart_implies m l f))
 
     not_by : (b : Bool) → implies_lit m l ≡ b → implies_lit m l ≡ false
-    not_by true i = absurd (shut (sym (implies_trans q m l (o.0 (cell_same m q l c ∙ of_cell (same_cell m l) refl i)) i) ∙ e))
+    not_by true i = absurd (shut (sym (implies_trans q m l (o.0 (cell_same m q l c ∙ of_cell (same_place m l) refl i)) i) ∙ e))
     not_by false i = i
 
 -- each literal outdoes those before it
@@ -94,7 +92,7 @@ last_within : (lits : List Lit) (l : Lit) (n at : ℕ) → n ≤ length lits →
 last_within lits l zero at h e = cc
 last_within lits l (suc n) at h e =
     let one : suc n ≡ n + 1 = omega arith in
-    cases (same_cell (get_or lits n l) l) (sym (latest-more lits n l (omega arith)) ∙ ap (λ i. latest (take i lits) l) (sym one) ∙ e) (λ f. last_within lits l n at (omega arith) f)
+    cases (same_place (get_or lits n l) l) (sym (latest-more lits n l (omega arith)) ∙ ap (λ i. latest (take i lits) l) (sym one) ∙ e) (λ f. last_within lits l n at (omega arith) f)
   where
     cases : (b : Bool) → cond b (Some n) (latest (take n lits) l) ≡ Some at → (latest (take n lits) l ≡ Some at → at < n) → at < suc n
     cases true f rest = let same : n ≡ at = cc in omega arith
@@ -107,9 +105,9 @@ last_hit lits l (suc n) at h e i =
     let one : suc n ≡ n + 1 = omega arith in
     ap (λ k. first_from 0 (take k lits) l) one
     ∙ first-more lits n l (omega arith)
-    ∙ cases (same_cell (get_or lits n l) l) refl (sym (latest-more lits n l (omega arith)) ∙ ap (λ k. latest (take k lits) l) (sym one) ∙ e) (λ f. last_hit lits l n at (omega arith) f i)
+    ∙ cases (same_place (get_or lits n l) l) refl (sym (latest-more lits n l (omega arith)) ∙ ap (λ k. latest (take k lits) l) (sym one) ∙ e) (λ f. last_hit lits l n at (omega arith) f i)
   where
-    cases : (b : Bool) → same_cell (get_or lits n l) l ≡ b → cond b (Some n) (latest (take n lits) l) ≡ Some at → (latest (take n lits) l ≡ Some at → first_from 0 (take n lits) l ≡ first_some (first_from 0 (take at lits) l) (Some at)) → first_some (first_from 0 (take n lits) l) (cond (implies_lit (get_or lits n l) l) (Some n) None) ≡ first_some (first_from 0 (take at lits) l) (Some at)
+    cases : (b : Bool) → same_place (get_or lits n l) l ≡ b → cond b (Some n) (latest (take n lits) l) ≡ Some at → (latest (take n lits) l ≡ Some at → first_from 0 (take n lits) l ≡ first_some (first_from 0 (take at lits) l) (Some at)) → first_some (first_from 0 (take n lits) l) (cond (implies_lit (get_or lits n l) l) (Some n) None) ≡ first_some (first_from 0 (take at lits) l) (Some at)
     cases true c f rest =
         let same : n ≡ at = cc in
         let holds : implies_lit (get_or lits n l) l ≡ true = ap (λ k. implies_lit (get_or lits k l) l) same ∙ i in
@@ -123,9 +121,9 @@ last_miss lits l (suc n) at o h e i =
     let one : suc n ≡ n + 1 = omega arith in
     ap (λ k. first_from 0 (take k lits) l) one
     ∙ first-more lits n l (omega arith)
-    ∙ cases (same_cell (get_or lits n l) l) refl (sym (latest-more lits n l (omega arith)) ∙ ap (λ k. latest (take k lits) l) (sym one) ∙ e) (λ f. last_miss lits l n at o (omega arith) f i)
+    ∙ cases (same_place (get_or lits n l) l) refl (sym (latest-more lits n l (omega arith)) ∙ ap (λ k. latest (take k lits) l) (sym one) ∙ e) (λ f. last_miss lits l n at o (omega arith) f i)
   where
-    cases : (b : Bool) → same_cell (get_or lits n l) l ≡ b → cond b (Some n) (latest (take n lits) l) ≡ Some at → (latest (take n lits) l ≡ Some at → first_from 0 (take n lits) l ≡ None) → first_some (first_from 0 (take n lits) l) (cond (implies_lit (get_or lits n l) l) (Some n) None) ≡ None
+    cases : (b : Bool) → same_place (get_or lits n l) l ≡ b → cond b (Some n) (latest (take n lits) l) ≡ Some at → (latest (take n lits) l ≡ Some at → first_from 0 (take n lits) l ≡ None) → first_some (first_from 0 (take n lits) l) (cond (implies_lit (get_or lits n l) l) (Some n) None) ≡ None
     cases true c f rest =
         let same : n ≡ at = cc in
         let holds : implies_lit (get_or lits n l) l ≡ false = ap (λ k. implies_lit (get_or lits k l) l) same ∙ i in
@@ -133,13 +131,8 @@ last_miss lits l (suc n) at o h e i =
     cases false c f rest = rw (apart_implies (get_or lits n l) l c, rest f) refl
 
 -- a literal that was open when it was set outdoes those of its cell before it
-newer : (m l : Lit) → implies_lit m l ≡ false → implies_lit m (complement_of l) ≡ false → same_cell m l ≡ true → implies_lit l m ≡ true
-newer (Atom n s) (Atom p r) = λ h e c. grind (arith, nat_tests)
-newer (Body n s) (Body p r) = λ h e c. grind (arith, nat_tests)
-newer (Constraint n s) (Constraint p r) = λ h e c. grind (arith, nat_tests)
-newer (AtMost x k) (AtMost y j) = λ h e c. grind (arith, nat_tests, ints)
-newer (AtLeast x k) (AtLeast y j) = λ h e c. grind (arith, nat_tests, ints)
-newer _ _ = λ h e c. cc
+newer : (m l : Lit) → implies_lit m l ≡ false → same_place m l ≡ true → implies_lit l m ≡ true
+newer m l h c = implies_other m l c h
 
 or_parts : (a b : Bool) → (a || b) ≡ false → (a ≡ false) × (b ≡ false)
 or_parts true b h = absurd (shut h)
@@ -153,7 +146,7 @@ any_outdone [] l h e = tt
 any_outdone (m ∷ ms) l h e =
     let one = or_parts (implies_lit m l) (list_any (λ x. implies_lit x l) ms) h in
     let other = or_parts (implies_lit m (complement_of l)) (list_any (λ x. implies_lit x (complement_of l)) ms) e in
-    (newer m l one.0 other.0, any_outdone ms l one.1 other.1)
+    (newer m l one.0, any_outdone ms l one.1 other.1)
 
 open_outdoes : (ends : Ends) (before : List Lit) (l : Lit) → truth_of ends before l ≡ None → Outdoes before l
 open_outdoes ends before l h =
@@ -223,14 +216,14 @@ walk_misses ts l first mark at t marks some item miss w =
     let lit : get_or (lits_of (entries_of ts)) at l ≡ t.entry.lit = lits_at ts at l t lt ∙ ap (λ (u : Slot). u.entry.lit) (sym item) in
     sym (w.first_is ∙ ap (λ o. first_some o first) (last_miss (lits_of (entries_of ts)) l (reach first (lits_of (entries_of ts))) at (outdoing t ts marks) w.within (sym w.mark_is ∙ some) (ap (λ m. implies_lit m l) lit ∙ miss)))
 
-last_cell : (lits : List Lit) (l : Lit) (n at : ℕ) → n ≤ length lits → latest (take n lits) l ≡ Some at → same_cell (get_or lits at l) l ≡ true
+last_cell : (lits : List Lit) (l : Lit) (n at : ℕ) → n ≤ length lits → latest (take n lits) l ≡ Some at → same_place (get_or lits at l) l ≡ true
 last_cell lits l zero at h e = cc
 last_cell lits l (suc n) at h e =
     let one : suc n ≡ n + 1 = omega arith in
-    cases (same_cell (get_or lits n l) l) refl (sym (latest-more lits n l (omega arith)) ∙ ap (λ k. latest (take k lits) l) (sym one) ∙ e) (λ f. last_cell lits l n at (omega arith) f)
+    cases (same_place (get_or lits n l) l) refl (sym (latest-more lits n l (omega arith)) ∙ ap (λ k. latest (take k lits) l) (sym one) ∙ e) (λ f. last_cell lits l n at (omega arith) f)
   where
-    cases : (b : Bool) → same_cell (get_or lits n l) l ≡ b → cond b (Some n) (latest (take n lits) l) ≡ Some at → (latest (take n lits) l ≡ Some at → same_cell (get_or lits at l) l ≡ true) → same_cell (get_or lits at l) l ≡ true
-    cases true c f rest = let same : n ≡ at = cc in ap (λ k. same_cell (get_or lits k l) l) (sym same) ∙ c
+    cases : (b : Bool) → same_place (get_or lits n l) l ≡ b → cond b (Some n) (latest (take n lits) l) ≡ Some at → (latest (take n lits) l ≡ Some at → same_place (get_or lits at l) l ≡ true) → same_place (get_or lits at l) l ≡ true
+    cases true c f rest = let same : n ≡ at = cc in ap (λ k. same_place (get_or lits k l) l) (sym same) ∙ c
     cases false c f rest = rest f
 
 pub walk_on : (ts : List Slot) (l : Lit) (first mark : Option ℕ) (at : ℕ) (t : Slot) → AreMarked ts → mark ≡ Some at → t ≡ get_or ts at t → implies_lit t.entry.lit l ≡ true → Walks (lits_of (entries_of ts)) l first mark → Walks (lits_of (entries_of ts)) l (Some at) t.mark
@@ -238,7 +231,7 @@ walk_on ts l first mark at t marks some item hit w =
     let lt : at < length ts = walk_within ts l first mark at some w in
     let lit : get_or (lits_of (entries_of ts)) at l ≡ t.entry.lit = lits_at ts at l t lt ∙ ap (λ (u : Slot). u.entry.lit) (sym item) in
     let last : latest (take (reach first (lits_of (entries_of ts))) (lits_of (entries_of ts))) l ≡ Some at = sym w.mark_is ∙ some in
-    let cell : same_cell t.entry.lit l ≡ true = ap (λ m. same_cell m l) (sym lit) ∙ last_cell (lits_of (entries_of ts)) l (reach first (lits_of (entries_of ts))) at w.within last in
+    let cell : same_place t.entry.lit l ≡ true = ap (λ m. same_place m l) (sym lit) ∙ last_cell (lits_of (entries_of ts)) l (reach first (lits_of (entries_of ts))) at w.within last in
     let here : t.mark ≡ latest (take at (lits_of (entries_of ts))) t.entry.lit = subst (λ (u : Slot). u.mark ≡ latest (take at (lits_of (entries_of ts))) u.entry.lit) (sym item) (marked_at [] ts at t marks lt).0 in
     let found : first_from 0 (lits_of (entries_of ts)) l ≡ first_some (first_from 0 (take at (lits_of (entries_of ts))) l) (Some at) =
     w.first_is

@@ -1,46 +1,41 @@
 -- What is known, laid out for reading at once. Only the trail's own code reads this file.
-use Rattle.std.specs.Prelude.{ℕ, zero, suc, ◌+◌, ◌*◌, ◌<◌, Bool, true, false, cond, ℤ, pos, int_le, int_lt, List, [], ◌∷◌, length, get_or, set, Option, None, Some}
-use Rattle.literals.specs.Truths.{signed}
+use Rattle.std.specs.Prelude.{◌≡◌, ℕ, zero, suc, ◌+◌, ◌*◌, ◌<◌, Bool, true, false, cond, nat_lt, ℤ, pos, int_le, int_lt, List, [], ◌∷◌, length, get_or, set, Option, None, Some}
 use Rattle.literals.specs.declared.lit.Lit.{Lit}
 use Rattle.literals.specs.declared.lit.Lit.TheVariants.{Atom, Body, Constraint, AtMost, AtLeast}
+use Rattle.literals.specs.declared.places.Counts.{Counts}
+use Rattle.literals.specs.Lits.{complement_of}
+use Rattle.literals.specs.Nogoods.{kind_of, index_of}
+use Rattle.literals.specs.Places.{IsCounted, place_of, places_of}
 
--- a truth for each atom, then each body, then each constraint; two bounds for each variable, the upper first; and for each of these the place of the entry that gave it
+-- for each place of a literal its truth, where it is no bound, and the place of the entry that gave it; two bounds for each variable, the upper first
 pub record Layout : Type 0 where
-  pub bodies_from : ℕ
-  pub constraints_from : ℕ
-  pub bounds_from : ℕ
+  pub counts : Counts
   pub truths : List (Option Bool)
   pub bounds : List ℤ
   pub marks : List (Option ℕ)
 
--- where the literal stands among the truths, or among the bounds
-abbrev pub place_of : Layout → Lit → ℕ
-place_of a (Atom n sign) = n
-place_of a (Body n sign) = a.bodies_from + n
-place_of a (Constraint n sign) = a.constraints_from + n
-place_of a (AtMost x k) = 2 * x
-place_of a (AtLeast x k) = 2 * x + 1
+-- where the literal stands among the truths and the marks
+abbrev pub slot_of : Layout → Lit → ℕ
+slot_of a l = place_of a.counts l
 
--- where it stands among the marks
-abbrev pub mark_place : Layout → Lit → ℕ
-mark_place a (Atom n sign) = n
-mark_place a (Body n sign) = a.bodies_from + n
-mark_place a (Constraint n sign) = a.constraints_from + n
-mark_place a (AtMost x k) = a.bounds_from + 2 * x
-mark_place a (AtLeast x k) = a.bounds_from + (2 * x + 1)
+-- whether the literal is of an atom, a body or a constraint, and no bound
+abbrev pub is_fact : Lit → Bool
+is_fact l = nat_lt (kind_of l) 3
+
+-- the bounds of the literal's variable are there, where it is a bound
+abbrev pub HasBounds : Layout → Lit → Type 0
+HasBounds a (Atom n sign) = Unit {0}
+HasBounds a (Body n sign) = Unit {0}
+HasBounds a (Constraint n sign) = Unit {0}
+HasBounds a (AtMost x k) = 2 * x + 1 < length a.bounds
+HasBounds a (AtLeast x k) = 2 * x + 1 < length a.bounds
 
 -- the literal has its places
-abbrev pub HasPlace : Layout → Lit → Type 0
-HasPlace a (Atom n sign) = n < length a.truths
-HasPlace a (Body n sign) = a.bodies_from + n < length a.truths
-HasPlace a (Constraint n sign) = a.constraints_from + n < length a.truths
-HasPlace a (AtMost x k) = 2 * x + 1 < length a.bounds
-HasPlace a (AtLeast x k) = 2 * x + 1 < length a.bounds
-
--- the truth of a literal whose truth without its sign is known
-abbrev pub with_sign : Bool → Option Bool → Option Bool
-with_sign sign None = None
-with_sign sign (Some b) = Some (signed sign b)
+pub record HasPlace (a : Layout) (l : Lit) : Type 0 where
+  pub counted : IsCounted a.counts l
+  pub truths : length a.truths ≡ places_of a.counts
+  pub marks : length a.marks ≡ places_of a.counts
+  pub bounds : HasBounds a l
 
 -- true where the first test holds, false where the second does
 abbrev pub decided : Bool → Bool → Option Bool
@@ -54,9 +49,9 @@ lower_in a x = get_or a.bounds (2 * x + 1) (pos 0)
 
 -- how the literal stands
 abbrev pub truth_in : Layout → Lit → Option Bool
-truth_in a (Atom n sign) = with_sign sign (get_or a.truths n None)
-truth_in a (Body n sign) = with_sign sign (get_or a.truths (a.bodies_from + n) None)
-truth_in a (Constraint n sign) = with_sign sign (get_or a.truths (a.constraints_from + n) None)
+truth_in a (Atom n sign) = get_or a.truths (slot_of a (Atom n sign)) None
+truth_in a (Body n sign) = get_or a.truths (slot_of a (Body n sign)) None
+truth_in a (Constraint n sign) = get_or a.truths (slot_of a (Constraint n sign)) None
 truth_in a (AtMost x k) = decided (int_le (upper_in a x) k) (int_lt k (lower_in a x))
 truth_in a (AtLeast x k) = decided (int_le k (lower_in a x)) (int_lt (upper_in a x) k)
 
@@ -70,23 +65,35 @@ saved_in a (AtLeast x k) = lower_in a x
 
 -- the entry that gave what the literal would replace
 abbrev pub mark_in : Layout → Lit → Option ℕ
-mark_in a l = get_or a.marks (mark_place a l) None
+mark_in a l = get_or a.marks (slot_of a l) None
+
+-- the truths with this one for the literal and that one for its opposite
+abbrev pub with_truths : Layout → Lit → Option Bool → Option Bool → List (Option Bool)
+with_truths a l known other = set (set a.truths (slot_of a l) known) (slot_of a (complement_of l)) other
+
+-- what is written at the places of a literal: truths or a bound, and a mark
+abbrev pub written : Layout → Lit → Option Bool → Option Bool → ℤ → Option ℕ → Layout
+written a l known other bound mark = record a {
+  truths = cond (is_fact l) (with_truths a l known other) a.truths;
+  bounds = cond (is_fact l) a.bounds (set a.bounds (index_of l) bound);
+  marks = set a.marks (slot_of a l) mark;
+}
+
+-- the bound that the literal is
+abbrev pub bound_of : Lit → ℤ
+bound_of (Atom n sign) = pos 0
+bound_of (Body n sign) = pos 0
+bound_of (Constraint n sign) = pos 0
+bound_of (AtMost x k) = k
+bound_of (AtLeast x k) = k
 
 -- the literal made known by the entry at this place
 abbrev pub applied : Layout → Lit → ℕ → Layout
-applied a (Atom n sign) at = record a { truths = set a.truths n (Some sign); marks = set a.marks n (Some at) }
-applied a (Body n sign) at = record a { truths = set a.truths (a.bodies_from + n) (Some sign); marks = set a.marks (a.bodies_from + n) (Some at) }
-applied a (Constraint n sign) at = record a { truths = set a.truths (a.constraints_from + n) (Some sign); marks = set a.marks (a.constraints_from + n) (Some at) }
-applied a (AtMost x k) at = record a { bounds = set a.bounds (2 * x) k; marks = set a.marks (a.bounds_from + 2 * x) (Some at) }
-applied a (AtLeast x k) at = record a { bounds = set a.bounds (2 * x + 1) k; marks = set a.marks (a.bounds_from + (2 * x + 1)) (Some at) }
+applied a l at = written a l (Some true) (Some false) (bound_of l) (Some at)
 
 -- the literal taken back, with the bound and the mark that it replaced
 abbrev pub reverted : Layout → Lit → ℤ → Option ℕ → Layout
-reverted a (Atom n sign) saved mark = record a { truths = set a.truths n None; marks = set a.marks n mark }
-reverted a (Body n sign) saved mark = record a { truths = set a.truths (a.bodies_from + n) None; marks = set a.marks (a.bodies_from + n) mark }
-reverted a (Constraint n sign) saved mark = record a { truths = set a.truths (a.constraints_from + n) None; marks = set a.marks (a.constraints_from + n) mark }
-reverted a (AtMost x k) saved mark = record a { bounds = set a.bounds (2 * x) saved; marks = set a.marks (a.bounds_from + 2 * x) mark }
-reverted a (AtLeast x k) saved mark = record a { bounds = set a.bounds (2 * x + 1) saved; marks = set a.marks (a.bounds_from + (2 * x + 1)) mark }
+reverted a l saved mark = written a l None None saved mark
 
 -- the upper and the lower end, as often as there are variables
 abbrev pub end_pairs : ℕ → ℤ → ℤ → List ℤ

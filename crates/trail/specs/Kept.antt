@@ -1,54 +1,39 @@
 -- What the fields of a trail keep. Only the trail's own code reads this file.
-use Rattle.std.specs.Prelude.{◌≡◌, ℕ, ◌+◌, ◌*◌, ◌^◌, ◌==◌, ◌≤◌, ◌≤ℤ◌, neg_ℤ, Bool, false, cond, ℤ, pos, List, [], ◌∷◌, ◌++◌, length, get_or, map, Option, None, Some, true}
+use Rattle.std.specs.Prelude.{◌≡◌, ℕ, ◌+◌, ◌*◌, ◌^◌, ◌≤◌, ◌≤ℤ◌, neg_ℤ, cond, ℤ, pos, List, [], ◌∷◌, ◌++◌, length, get_or, map, Option, None, Some, true}
 use Rattle.std.specs.List.{AllByRecursion}
 use Rattle.symbols.specs.declared.ends.Ends.{Ends}
 use Rattle.literals.specs.declared.lit.Lit.{Lit}
 use Rattle.literals.specs.declared.lit.Lit.TheVariants.{Atom, Body, Constraint, AtMost, AtLeast}
 use Rattle.literals.specs.Lits.{implies_lit}
+use Rattle.literals.specs.Nogoods.{same_place}
+use Rattle.literals.specs.Places.{places_of}
 use Rattle.trail.specs.declared.shape.Shape.{Shape}
 use Rattle.trail.specs.declared.entry.Entry.{Entry}
 use Rattle.trail.specs.declared.entry.Slot.{Slot}
 use Rattle.trail.specs.Implied.{truth_of, lower_of, upper_of}
-use Rattle.trail.specs.Assignment.{lits_of, IsOf, Follow}
-use Rattle.trail.specs.Cells.{Layout, with_sign, upper_in, lower_in, mark_in}
+use Rattle.trail.specs.Assignment.{lits_of, IsOf, counts_of, Follow}
+use Rattle.trail.specs.Cells.{Layout, is_fact, slot_of, upper_in, lower_in, mark_in}
 
--- whether the two are of one atom, body, constraint, or side of a variable
-abbrev pub same_cell : Lit → Lit → Bool
-same_cell (Atom n s) (Atom m r) = n == m
-same_cell (Body n s) (Body m r) = n == m
-same_cell (Constraint n s) (Constraint m r) = n == m
-same_cell (AtMost x k) (AtMost y j) = x == y
-same_cell (AtLeast x k) (AtLeast y j) = x == y
-same_cell _ _ = false
-
--- the place of the last of these of the literal's cell, where the list begins at this place and this one was the last before
+-- the place of the last of these at the literal's place in a nogood, where the list begins at this place and this one was the last before
 abbrev pub last_from : ℕ → Option ℕ → List Lit → Lit → Option ℕ
 last_from place last [] l = last
-last_from place last (m ∷ ms) l = last_from (place + 1) (cond (same_cell m l) (Some place) last) ms l
+last_from place last (m ∷ ms) l = last_from (place + 1) (cond (same_place m l) (Some place) last) ms l
 
 abbrev pub latest : List Lit → Lit → Option ℕ
 latest lits l = last_from 0 None lits l
 
 -- the layout has room for the shape
 pub record Fits (s : Shape) (a : Layout) : Type 0 where
-  pub bodies : a.bodies_from ≡ s.atoms + 1
-  pub constraints : a.constraints_from ≡ s.atoms + 1 + (s.bodies + 1)
-  pub bounds : a.bounds_from ≡ s.atoms + 1 + (s.bodies + 1) + (s.constraints + 1)
-  pub truths : length a.truths ≡ s.atoms + 1 + (s.bodies + 1) + (s.constraints + 1)
+  pub counts : a.counts ≡ counts_of s
+  pub truths : length a.truths ≡ places_of a.counts
   pub pairs : length a.bounds ≡ 2 * (s.variables + 1)
-  pub marks : length a.marks ≡ s.atoms + 1 + (s.bodies + 1) + (s.constraints + 1) + 2 * (s.variables + 1)
+  pub marks : length a.marks ≡ places_of a.counts
 
--- the cell of the literal shows what the literals say
-abbrev pub ShowsCell : Ends → List Lit → Layout → Lit → Type 0
-ShowsCell ends lits a (Atom n sign) = with_sign sign (get_or a.truths n None) ≡ truth_of ends lits (Atom n sign)
-ShowsCell ends lits a (Body n sign) = with_sign sign (get_or a.truths (a.bodies_from + n) None) ≡ truth_of ends lits (Body n sign)
-ShowsCell ends lits a (Constraint n sign) = with_sign sign (get_or a.truths (a.constraints_from + n) None) ≡ truth_of ends lits (Constraint n sign)
-ShowsCell ends lits a (AtMost x k) = upper_in a x ≡ upper_of ends lits x
-ShowsCell ends lits a (AtLeast x k) = lower_in a x ≡ lower_of ends lits x
-
--- each cell of the shape shows what the literals say, and which of them said it
+-- the layout shows what the literals say, and which of them said it
 pub record Shows (s : Shape) (lits : List Lit) (a : Layout) : Type 0 where
-  pub cell : (l : Lit) → IsOf s l → ShowsCell s.ends lits a l
+  pub truth : (l : Lit) → IsOf s l → is_fact l ≡ true → get_or a.truths (slot_of a l) None ≡ truth_of s.ends lits l
+  pub upper : (x : ℕ) → x ≤ s.variables → upper_in a x ≡ upper_of s.ends lits x
+  pub lower : (x : ℕ) → x ≤ s.variables → lower_in a x ≡ lower_of s.ends lits x
   pub mark : (l : Lit) → IsOf s l → mark_in a l ≡ latest lits l
 
 -- the bound that stood before the literal was set
@@ -94,7 +79,7 @@ IsBoundOf variables (AtLeast x k) = (x ≤ variables) × (neg_ℤ (pos (2 ^ 30))
 
 -- each literal of the same cell among these follows from this one
 abbrev pub Outdoes : List Lit → Lit → Type 0
-Outdoes before l = AllByRecursion (λ m. same_cell m l ≡ true → implies_lit l m ≡ true) before
+Outdoes before l = AllByRecursion (λ m. same_place m l ≡ true → implies_lit l m ≡ true) before
 
 -- each slot is marked with the last literal of its cell before it, and outdoes those; the first stands after these literals
 abbrev pub Marked : List Lit → List Slot → Type 0

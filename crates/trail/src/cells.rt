@@ -1,19 +1,21 @@
 // What is known now, laid out for reading at once.
-ghost use Rattle.std.specs.Prelude.{◌≡◌, ◌<◌, ◌+◌, ◌*◌, ◌++◌, length, get_or, pos, zero, replicate, None, IfOk};
-ghost use Rattle.trail.specs.Cells.{HasPlace, place_of, mark_place, truth_in, upper_in, lower_in, saved_in, mark_in, with_sign, decided, applied, reverted, end_pairs};
+ghost use Rattle.std.specs.Prelude.{◌≡◌, ◌<◌, ◌+◌, ◌*◌, length, set, replicate, None, IfOk};
+ghost use Rattle.literals.specs.Places.{places_of};
+ghost use Rattle.trail.specs.Assignment.{counts_of};
+ghost use Rattle.trail.specs.Cells.{HasPlace, truth_in, upper_in, lower_in, saved_in, mark_in, bound_of as of_lit, decided, written, applied, reverted, end_pairs};
 
 use crate::shape::Shape;
-use literals::Lit;
+use literals::{Lit, Places};
 use std::alloc::{AllocError, Global};
 use std::marker::Model;
 
-/// A truth for each atom, body and constraint, two bounds for each variable, and for each of these the
-/// place of the entry that gave it.
+/// For each place of a literal its truth and the place of the entry that gave it, and two bounds for each
+/// variable.
+///
+/// A truth stands at the literal's place and, turned, at its opposite's: reading one is one look.
 #[derive(Debug, Drop)]
 pub(crate) struct Cells {
-    bodies_from: usize,
-    constraints_from: usize,
-    bounds_from: usize,
+    places: Places,
     truths: Vec<Option<bool>>,
     bounds: Vec<i32>,
     marks: Vec<Option<usize>>,
@@ -24,18 +26,7 @@ impl Model for Cells {
 
     ghost Value = { Layout };
 
-    ghost view = { λ c. record { bodies_from = c.bodies_from; constraints_from = c.constraints_from; bounds_from = c.bounds_from; truths = c.truths.items; bounds = c.bounds.items; marks = c.marks.items } };
-}
-
-// The truth of a literal whose truth without its sign is `known`.
-#[inline]
-fn signed(known: Option<bool>, sign: bool) -> Option<bool>
-    ensures { result ≡ with_sign sign known }
-{
-    match known {
-        Some(truth) => Some(truth == sign),
-        None => None,
-    }
+    ghost view = { λ c. record { counts = c.places; truths = c.truths.items; bounds = c.bounds.items; marks = c.marks.items } };
 }
 
 // True where the first test holds, false where the second does.
@@ -52,6 +43,17 @@ fn decide(holds: bool, fails: bool) -> Option<bool>
     }
 }
 
+// The bound that the literal is.
+#[inline]
+fn bound_of(lit: Lit) -> i32
+    ensures { result ≡ of_lit lit }
+{
+    match lit {
+        Lit::Atom(..) | Lit::Body(..) | Lit::Constraint(..) => 0,
+        Lit::AtMost(_, k) | Lit::AtLeast(_, k) => k,
+    }
+}
+
 // The upper and the lower end, as often as there are variables.
 fn pairs_of(alloc: Global, variables: usize, min: i32, max: i32) -> Result<Vec<i32>, AllocError>
     ensures { IfOk result (λ pairs. pairs.items ≡ end_pairs variables min max) }
@@ -64,27 +66,43 @@ fn pairs_of(alloc: Global, variables: usize, min: i32, max: i32) -> Result<Vec<i
     Ok(pairs)
 }
 
+// Writes a truth at a place, and another at the opposite's.
+#[inline]
+fn write_pair(
+    truths: &mut Vec<Option<bool>>,
+    place: usize,
+    opposite: usize,
+    known: Option<bool>,
+    other: Option<bool>,
+)
+    requires place { place < length truths.old.items }
+    requires opposite { opposite < length truths.old.items }
+    ensures { truths.new.items ≡ set (set truths.old.items place known) opposite other }
+{
+    truths[place] = known;
+    truths[opposite] = other;
+}
+
 impl Cells {
     /// Nothing is known, and each variable is between the ends.
     pub(crate) fn new(alloc: Global, shape: Shape) -> Result<Cells, AllocError>
-        ensures bodies { IfOk result (λ c. c.bodies_from ≡ shape.atoms + 1) }
-        ensures constraints { IfOk result (λ c. c.constraints_from ≡ shape.atoms + 1 + (shape.bodies + 1)) }
-        ensures bounds { IfOk result (λ c. c.bounds_from ≡ shape.atoms + 1 + (shape.bodies + 1) + (shape.constraints + 1)) }
-        ensures truths { IfOk result (λ c. c.truths ≡ replicate (shape.atoms + 1 + (shape.bodies + 1) + (shape.constraints + 1)) None) }
+        ensures counts { IfOk result (λ c. c.counts ≡ counts_of shape) }
+        ensures truths { IfOk result (λ c. c.truths ≡ replicate (places_of (counts_of shape)) None) }
         ensures pairs { IfOk result (λ c. c.bounds ≡ end_pairs (shape.variables + 1) shape.ends.min shape.ends.max) }
-        ensures marks { IfOk result (λ c. c.marks ≡ replicate (shape.atoms + 1 + (shape.bodies + 1) + (shape.constraints + 1) + 2 * (shape.variables + 1)) None) }
+        ensures marks { IfOk result (λ c. c.marks ≡ replicate (places_of (counts_of shape)) None) }
     {
-        let bodies_from = shape.atoms as usize + 1;
-        let constraints_from = bodies_from + (shape.bodies as usize + 1);
-        let bounds_from = constraints_from + (shape.constraints as usize + 1);
-        let variables = shape.variables as usize + 1;
-        let truths = vec![in alloc; None; bounds_from]?;
-        let bounds = pairs_of(alloc, variables, shape.ends.min, shape.ends.max)?;
-        let marks = vec![in alloc; None; bounds_from + 2 * variables]?;
+        let places = Places::new(shape.counts());
+        let count = places.count();
+        let truths = vec![in alloc; None; count]?;
+        let bounds = pairs_of(
+            alloc,
+            shape.variables as usize + 1,
+            shape.ends.min,
+            shape.ends.max,
+        )?;
+        let marks = vec![in alloc; None; count]?;
         Ok(Cells {
-            bodies_from,
-            constraints_from,
-            bounds_from,
+            places,
             truths,
             bounds,
             marks,
@@ -116,12 +134,9 @@ impl Cells {
         ensures { result ≡ truth_in self.now lit }
     {
         match lit {
-            Lit::Atom(n, sign) => signed(self.truths[n as usize], sign),
-            Lit::Body(n, sign) => signed(self.truths[self.bodies_from + n as usize], sign),
-            Lit::Constraint(n, sign) => signed(
-                self.truths[self.constraints_from + n as usize],
-                sign,
-            ),
+            Lit::Atom(..) | Lit::Body(..) | Lit::Constraint(..) => self.truths[self
+                .places
+                .place(lit)],
             Lit::AtMost(x, k) => {
                 let upper = self.bounds[2 * x as usize];
                 let lower = self.bounds[2 * x as usize + 1];
@@ -148,65 +163,64 @@ impl Cells {
         }
     }
 
-    // Where the literal stands among the marks.
-    #[inline]
-    fn mark_at(&self, lit: Lit) -> usize
-        requires { mark_place self.now lit < length self.now.marks }
-        ensures { result ≡ mark_place self.now lit }
-    {
-        match lit {
-            Lit::Atom(n, _) => n as usize,
-            Lit::Body(n, _) => self.bodies_from + n as usize,
-            Lit::Constraint(n, _) => self.constraints_from + n as usize,
-            Lit::AtMost(x, _) => self.bounds_from + 2 * x as usize,
-            Lit::AtLeast(x, _) => self.bounds_from + (2 * x as usize + 1),
-        }
-    }
-
-    /// The place of the entry that gave what the literal would replace.
+    /// The entry that gave what the literal would replace.
     #[inline]
     pub(crate) fn mark(&self, lit: Lit) -> Option<usize>
-        requires { mark_place self.now lit < length self.now.marks }
+        requires { HasPlace self.now lit }
         ensures { result ≡ mark_in self.now lit }
     {
-        self.marks[self.mark_at(lit)]
+        self.marks[self.places.place(lit)]
     }
 
-    /// Makes the literal known, by the entry at this place.
+    // Writes at the places of the literal: one truth for it and another for its opposite, or a bound; and
+    // a mark.
+    #[inline]
+    fn write(
+        &mut self,
+        lit: Lit,
+        known: Option<bool>,
+        other: Option<bool>,
+        bound: i32,
+        mark: Option<usize>,
+    )
+        requires { HasPlace self.old lit }
+        ensures { self.new ≡ written self.old lit known other bound mark }
+    {
+        let place = self.places.place(lit);
+        self.marks[place] = mark;
+        match lit {
+            Lit::Atom(n, sign) => {
+                let opposite = self.places.place(Lit::Atom(n, !sign));
+                write_pair(&mut self.truths, place, opposite, known, other);
+            }
+            Lit::Body(n, sign) => {
+                let opposite = self.places.place(Lit::Body(n, !sign));
+                write_pair(&mut self.truths, place, opposite, known, other);
+            }
+            Lit::Constraint(n, sign) => {
+                let opposite = self.places.place(Lit::Constraint(n, !sign));
+                write_pair(&mut self.truths, place, opposite, known, other);
+            }
+            Lit::AtMost(x, _) => self.bounds[2 * x as usize] = bound,
+            Lit::AtLeast(x, _) => self.bounds[2 * x as usize + 1] = bound,
+        }
+    }
+
+    /// Makes the literal known by the entry at the place.
     #[inline]
     pub(crate) fn apply(&mut self, lit: Lit, at: usize)
-        requires has_place { HasPlace self.old lit }
-        requires has_mark { mark_place self.old lit < length self.old.marks }
+        requires { HasPlace self.old lit }
         ensures { self.new ≡ applied self.old lit at }
     {
-        let mark = self.mark_at(lit);
-        self.marks[mark] = Some(at);
-        match lit {
-            Lit::Atom(n, sign) => self.truths[n as usize] = Some(sign),
-            Lit::Body(n, sign) => self.truths[self.bodies_from + n as usize] = Some(sign),
-            Lit::Constraint(n, sign) => self.truths[self.constraints_from + n as usize] = Some(
-                sign,
-            ),
-            Lit::AtMost(x, k) => self.bounds[2 * x as usize] = k,
-            Lit::AtLeast(x, k) => self.bounds[2 * x as usize + 1] = k,
-        }
+        self.write(lit, Some(true), Some(false), bound_of(lit), Some(at));
     }
 
     /// Takes the literal back, with the bound and the mark that it replaced.
     #[inline]
     pub(crate) fn revert(&mut self, lit: Lit, saved: i32, mark: Option<usize>)
-        requires has_place { HasPlace self.old lit }
-        requires has_mark { mark_place self.old lit < length self.old.marks }
+        requires { HasPlace self.old lit }
         ensures { self.new ≡ reverted self.old lit saved mark }
     {
-        let at = self.mark_at(lit);
-        self.marks[at] = mark;
-        match lit {
-            Lit::Atom(n, _) => self.truths[n as usize] = None,
-            Lit::Body(n, _) => self.truths[self.bodies_from + n as usize] = None,
-            Lit::Constraint(n, _) => self.truths[self.constraints_from + n as usize] = None,
-            Lit::AtMost(x, _) => self.bounds[2 * x as usize] = saved,
-            Lit::AtLeast(x, _) => self.bounds[2 * x as usize + 1] = saved,
-        }
+        self.write(lit, None, None, saved, mark);
     }
 }

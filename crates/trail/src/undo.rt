@@ -1,7 +1,7 @@
 // Taking slots back from the end of a trail.
 ghost use Rattle.std.specs.Prelude.{◌≡◌, ◌<◌, ◌≤◌, ◌-◌, [], ◌∷◌, ◌++◌, length, slice_index_or, IfSome, IfNone, List};
 ghost use Rattle.trail.specs.declared.entry.Slot.{Slot};
-ghost use Rattle.trail.specs.Cells.{HasPlace, mark_place, reverted};
+ghost use Rattle.trail.specs.Cells.{HasPlace, reverted};
 
 use crate::cells::Cells;
 use crate::entry::Slot;
@@ -21,8 +21,7 @@ pub(crate) fn pop_above(slots: &mut Vec<Slot>, level: usize) -> Option<Slot>
 
 /// Takes the literal of the slot back.
 pub(crate) fn take_back(cells: &mut Cells, slot: Slot)
-    requires has_place { HasPlace cells.old slot.entry.lit }
-    requires has_mark { mark_place cells.old slot.entry.lit < length cells.old.marks }
+    requires { HasPlace cells.old slot.entry.lit }
     ensures { cells.new ≡ reverted cells.old slot.entry.lit slot.saved slot.mark }
 {
     cells.revert(slot.entry.lit, slot.saved, slot.mark);

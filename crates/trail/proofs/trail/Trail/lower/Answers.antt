@@ -1,6 +1,5 @@
-use Rattle.std.proofs.Common.{◌≤◌, ap, ◌∙◌, pos, rules, FitsSigned, w32}
+use Rattle.std.proofs.Common.{◌≤◌, ap, ◌∙◌, rules, FitsSigned, w32}
 use Rattle.std.proofs.lemmas.Int.{to_z-of_z}
-use Rattle.literals.specs.declared.lit.Lit.TheVariants.{AtLeast}
 use Rattle.trail.specs.Assignment.{Assignment, lower_on}
 use Rattle.trail.proofs.trail.Trail.lower.Goals as goal
 
@@ -8,4 +7,4 @@ pub returns : goal.returns
 returns c =
     let fits : FitsSigned w32 c.lower.result = search rules in
     let within : c.args.x ≤ c.self.inside.shape.variables = rw (ap (λ (t : Assignment). t.shape.variables) c.self.view_is) c.requires in
-    to_z-of_z w32 c.lower.result fits ∙ c.lower.ensures ∙ c.self.invariant.shows.cell (AtLeast c.args.x (pos 0)) within ∙ ap (λ (t : Assignment). lower_on t c.args.x) c.self.view_is
+    to_z-of_z w32 c.lower.result fits ∙ c.lower.ensures ∙ c.self.invariant.shows.lower c.args.x within ∙ ap (λ (t : Assignment). lower_on t c.args.x) c.self.view_is

@@ -2,17 +2,12 @@ use Rattle.std.proofs.Common.{List, [], nat_le, ap, subst, sym, ◌∙◌}
 use Rattle.std.specs.List.{filter}
 use Rattle.trail.specs.declared.entry.Slot.{Slot}
 use Rattle.trail.specs.Kept.{IsTrail, entries_of}
-use Rattle.trail.proofs.KeptLaws.{last_place, last_mark, trail_pop, trail_cut, filter_last, filter_all, follow_cut, undone}
+use Rattle.trail.proofs.KeptLaws.{last_place, trail_pop, trail_cut, filter_last, filter_all, follow_cut, undone}
 use Rattle.trail.proofs.trail.Trail.undo_to.Goals as goal
 
-pub take_back-requires-clause-has_place : goal.take_back-requires-clause-has_place
-take_back-requires-clause-has_place c =
+pub take_back-requires : goal.take_back-requires
+take_back-requires c =
     last_place c.undo.self-inside.shape c.undo.self-inside.level c.pop_above.new.slots.items c.undo.self-inside.cells c.undo.self-inside.orders.variables c.in-Some.slot
-    (subst (λ (ts : List Slot). IsTrail c.undo.self-inside.shape c.undo.self-inside.level ts c.undo.self-inside.cells c.undo.self-inside.orders.variables) c.in-Some.ensures.some.0 c.undo.invariant.trail)
-
-pub take_back-requires-clause-has_mark : goal.take_back-requires-clause-has_mark
-take_back-requires-clause-has_mark c =
-    last_mark c.undo.self-inside.shape c.undo.self-inside.level c.pop_above.new.slots.items c.undo.self-inside.cells c.undo.self-inside.orders.variables c.in-Some.slot
     (subst (λ (ts : List Slot). IsTrail c.undo.self-inside.shape c.undo.self-inside.level ts c.undo.self-inside.cells c.undo.self-inside.orders.variables) c.in-Some.ensures.some.0 c.undo.invariant.trail)
 
 pub undo-preserved : goal.undo-preserved
