@@ -19,7 +19,8 @@ use Rattle.trail.specs.Implied.{bound_before}
 use Rattle.trail.specs.Assignment.{Assignment, IsAssignment, lits_of, truth_on}
 use Rattle.sum_propagator.specs.declared.sum.Totals.{Totals}
 use Rattle.sum_propagator.specs.declared.moves.Move.{Move}
-use Rattle.sum_propagator.specs.Sums.{are_items, bounds_on}
+use Rattle.numbering_laws.specs.Items.{are_items}
+use Rattle.sum_propagator.specs.Sums.{bounds_on}
 use Rattle.sum_propagator.specs.Sides.{coefficient_of}
 use Rattle.sum_propagator.specs.Moves.{front, key_in, AreRising, AreCoefficients, move_of, moves_least, step_by, AreTotals, MovesItem, Lacks, IsMoved}
 use Rattle.sum_propagator.proofs.Forcing.{bounds_with, touches, once_rec}

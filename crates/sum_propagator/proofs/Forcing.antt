@@ -16,7 +16,8 @@ use Rattle.linear_normal.specs.Bounds.{Bounds, bounds_named, raised, lowered, co
 use Rattle.trail.specs.Implied.{ends_imply, implied}
 use Rattle.trail.specs.Assignment.{Assignment, IsAssignment, lits_of, truth_on}
 use Rattle.trail.proofs.ImpliedLaws.{implied-push, implied_stays, implied_trans, open_is, fold-push}
-use Rattle.sum_propagator.specs.Sums.{same_counted, counts_truth, are_items, bounds_on}
+use Rattle.numbering_laws.specs.Items.{same_counted, counts_truth, are_items}
+use Rattle.sum_propagator.specs.Sums.{bounds_on}
 use Rattle.sum_propagator.specs.Sides.{coefficient_of, low_in, high_in, signed_by, side_least, side_greatest, side_sum, Rests}
 use Rattle.sum_propagator.specs.Reasons.{Follow, IsOrTrue}
 use Rattle.sum_propagator.proofs.Times.{least_within}

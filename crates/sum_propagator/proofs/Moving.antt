@@ -24,7 +24,8 @@ use Rattle.trail.proofs.EntryLaws.{entry_is}
 use Rattle.sum_propagator.specs.declared.sum.Totals.{Totals}
 use Rattle.sum_propagator.specs.declared.moves.Move.{Move}
 use Rattle.propagator_core.specs.Standing.{StandsFor}
-use Rattle.sum_propagator.specs.Sums.{same_counted, bounds_on, totals_after}
+use Rattle.numbering_laws.specs.Items.{same_counted}
+use Rattle.sum_propagator.specs.Sums.{bounds_on, totals_after}
 use Rattle.sum_propagator.specs.Sides.{coefficient_of, low_in, high_in, InRange, side_least, side_sum, AreSmall}
 use Rattle.sum_propagator.specs.Moves.{front, key_in, bit, bound_move, move_of, moves_least, step_by, AreTotals, AreCoefficients}
 use Rattle.sum_propagator.proofs.Times.{product_small}

@@ -14,7 +14,8 @@ use Rattle.trail.proofs.AssignmentLaws.{true-truth, truth-true, truth-false, fal
 use Rattle.propagator_core.specs.declared.touch.Touch.TheVariants as touch
 use Rattle.propagator_core.specs.Touching.{SameOf, SameOfAll}
 use Rattle.propagator_core.specs.Quiet.{IsQuiet, IsSteady}
-use Rattle.sum_propagator.specs.Sums.{are_items, fits_sum, sum_meaning, bounds_on, touch_of, touches_of, is_below, is_above, is_consistent, rests_sum}
+use Rattle.numbering_laws.specs.Items.{are_items}
+use Rattle.sum_propagator.specs.Sums.{fits_sum, sum_meaning, bounds_on, touch_of, touches_of, is_below, is_above, is_consistent, rests_sum}
 use Rattle.sum_propagator.specs.Sides.{limit_of, side_least, side_greatest, side_sum, Rests}
 use Rattle.sum_propagator.proofs.Ranges.{on_low, on_high, least-named, greatest-named}
 use Rattle.sum_propagator.proofs.Backing.{item_least, item_greatest, item_opposite}

@@ -29,7 +29,8 @@ use Rattle.propagator_core.specs.Meaning.{Meaning}
 use Rattle.propagator_core.specs.Shown.{IsShown, IsConflict}
 use Rattle.propagator_core.specs.Quiet.{IsDecided, IsQuiet}
 use Rattle.sum_propagator.specs.declared.sum.Totals.{Totals}
-use Rattle.sum_propagator.specs.Sums.{are_items, counts_truth, is_item_of, fits_sum, valid_sum, settled_sum, sum_meaning, bounds_on, totals_after}
+use Rattle.numbering_laws.specs.Items.{are_items, counts_truth}
+use Rattle.sum_propagator.specs.Sums.{is_item_of, fits_sum, valid_sum, settled_sum, sum_meaning, bounds_on, totals_after}
 use Rattle.sum_propagator.specs.Sides.{low_in, high_in, limit_of, side_sum, Rests}
 use Rattle.sum_propagator.specs.Reasons.{IsOrTrue, Explains}
 use Rattle.sum_propagator.proofs.Ranges.{on_low, on_high, least-named, greatest-named}

@@ -1,5 +1,5 @@
 -- What a propagator of a sum stands for.
-use Rattle.std.specs.Prelude.{◌≡◌, ◌+ℤ◌, ◌≤ℤ◌, pos, IfSome, ℕ, ◌==◌, Bool, true, false, not, ◌&&◌, ◌||◌, ℤ, ◌-ℤ◌, int_le, int_lt, List, [], ◌∷◌, map, Option, None, Some}
+use Rattle.std.specs.Prelude.{◌≡◌, ◌+ℤ◌, ◌≤ℤ◌, pos, IfSome, ℕ, ◌==◌, Bool, true, false, ◌&&◌, ◌||◌, ℤ, ◌-ℤ◌, int_le, int_lt, List, [], ◌∷◌, map, Option, None, Some}
 use Rattle.std.specs.List.{All, list_all, list_any}
 use Rattle.symbols.specs.declared.ends.Ends.{Ends}
 use Rattle.literals.specs.declared.lit.Lit.{Lit}
@@ -12,6 +12,7 @@ use Rattle.linear_normal.specs.declared.constraint.Item.TheVariants.{Value, Trut
 use Rattle.linear_normal.specs.declared.constraint.Constraint.TheVariants as c
 use Rattle.linear_normal.specs.Bounds.{Bounds, bounds_named, least_item, greatest_item, least_sum, greatest_sum}
 use Rattle.linear_normal.specs.Steps.{is_one_of, is_sum}
+use Rattle.numbering_laws.specs.Items.{counts_truth, is_item_within}
 use Rattle.trail.specs.declared.shape.Shape.{Shape}
 use Rattle.trail.specs.declared.entry.Entry.{Entry}
 use Rattle.trail.specs.Assignment.{Assignment, lits_of, is_true_on, truth_on}
@@ -19,25 +20,6 @@ use Rattle.propagator_core.specs.declared.touch.Touch.{Touch}
 use Rattle.propagator_core.specs.declared.touch.Touch.TheVariants as touch
 use Rattle.propagator_core.specs.Meaning.{Meaning}
 use Rattle.sum_propagator.specs.declared.sum.Totals.{Totals}
-
--- ITEMS
-
--- both count one variable, or both count one constraint
-abbrev pub same_counted : Item → Item → Bool
-same_counted (Value x c) (Value y d) = x == y
-same_counted (Truth n c) (Truth m d) = n == m
-same_counted a b = false
-
--- the item counts the truth of the constraint
-abbrev pub counts_truth : ℕ → Item → Bool
-counts_truth n (Truth m c) = m == n
-counts_truth n item = false
-
--- each item counts another variable or constraint, and none counts the sum itself
-abbrev pub are_items : ℕ → List Item → Bool
-are_items number [] = true
-are_items number (item ∷ items) =
-    not (counts_truth number item) && list_all (λ other. not (same_counted item other)) items && are_items number items
 
 -- NUMBERS
 
@@ -51,8 +33,7 @@ is_of s (l.AtLeast x k) = is_one_of s.variables x
 
 -- the item counts a variable or a constraint of the shape
 abbrev pub is_item_of : Shape → Item → Bool
-is_item_of s (Value x c) = is_one_of s.variables x
-is_item_of s (Truth n c) = is_one_of s.constraints n
+is_item_of s item = is_item_within s.variables s.constraints item
 
 -- MEANING
 

@@ -4,7 +4,7 @@
 //! the opposite sum by the same path of code, and an open one is set where its sums decide it. Every
 //! reason is valid and names each bound that is needed and none that the ends imply; at `Quiet` all
 //! bounds are consistent, and they stay so while no bound or truth changes that the sum touches. All sums are exact in 128 bits. Stands on `symbols`, `literals`,
-//! `linear_normal`, `trail` and `propagator_core`.
+//! `linear_normal`, `trail` and `propagator_core`, and on `numbering_laws` for what the items of a sum have to be.
 #![tactic(auto)]
 
 mod item;

@@ -4,7 +4,8 @@ ghost use Rattle.std.specs.Int.RustNames.{unsigned_abs};
 ghost use Rattle.std.specs.List.{All};
 ghost use Rattle.trail.specs.Assignment.{IsAssignment};
 ghost use Rattle.linear_normal.specs.Bounds.{least_item, greatest_item, least_sum, greatest_sum};
-ghost use Rattle.sum_propagator.specs.Sums.{are_items, is_item_of, bounds_on, IsWithin};
+ghost use Rattle.numbering_laws.specs.Items.{are_items};
+ghost use Rattle.sum_propagator.specs.Sums.{is_item_of, bounds_on, IsWithin};
 ghost use Rattle.sum_propagator.specs.Moves.{AreRising, AreCoefficients};
 ghost use Rattle.sum_propagator.specs.Sides.{AreSmall, limit_of, total_of};
 

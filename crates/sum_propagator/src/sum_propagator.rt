@@ -9,7 +9,8 @@ ghost use Rattle.trail.specs.Growth.{Grows};
 ghost use Rattle.propagator_core.specs.Shown.{IsShown};
 ghost use Rattle.propagator_core.specs.Quiet.{Answers};
 ghost use Rattle.propagator_core.specs.Standing.{StandsFor};
-ghost use Rattle.sum_propagator.specs.Sums.{are_items, bounds_on, fits_sum, valid_sum, sum_meaning, totals_after, AreWithin, StandsAt};
+ghost use Rattle.numbering_laws.specs.Items.{are_items};
+ghost use Rattle.sum_propagator.specs.Sums.{bounds_on, fits_sum, valid_sum, sum_meaning, totals_after, AreWithin, StandsAt};
 ghost use Rattle.sum_propagator.specs.Moves.{AreRising};
 ghost use Rattle.sum_propagator.specs.Sides.{AreSmall, limit_of, side_sum};
 

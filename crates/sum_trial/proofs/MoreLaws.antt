@@ -20,7 +20,8 @@ use Rattle.propagator_core.specs.Meaning.{Meaning}
 use Rattle.propagator_core.specs.Standing.{StandsFor}
 use Rattle.propagator_core.specs.Several.{AllFit, AllStand}
 use Rattle.propagator_core.proofs.SeveralLaws.{stands_on}
-use Rattle.sum_propagator.specs.Sums.{same_counted, counts_truth, are_items, is_item_of, fits_sum, sum_meaning}
+use Rattle.numbering_laws.specs.Items.{same_counted, counts_truth, are_items}
+use Rattle.sum_propagator.specs.Sums.{is_item_of, fits_sum, sum_meaning}
 
 -- PROPAGATORS
 

@@ -3,7 +3,8 @@ ghost use Rattle.std.specs.Prelude.{◌≡◌, ◌+◌, ◌-◌, ◌<◌, ◌≤
 ghost use Rattle.std.specs.List.{list_all};
 ghost use Rattle.trail.specs.declared.shape.Shape.{Shape};
 ghost use Rattle.propagator_core.specs.Standing.{StandsFor};
-ghost use Rattle.sum_propagator.specs.Sums.{are_items, is_item_of, fits_sum, sum_meaning, StandsAt};
+ghost use Rattle.numbering_laws.specs.Items.{are_items};
+ghost use Rattle.sum_propagator.specs.Sums.{is_item_of, fits_sum, sum_meaning, StandsAt};
 ghost use Rattle.sum_trial.specs.Trials.{wide_items, AreRaised, GrowsRaised, IsWidened};
 
 use crate::starting::start;

@@ -2,7 +2,8 @@ use Rattle.std.proofs.Common.{arith, ◌+◌, ◌≤◌, List, [], ◌∷◌, �
 use Rattle.std.specs.List.{AllByRecursion, list_all}
 use Rattle.linear_normal.specs.declared.constraint.Item.{Item}
 use Rattle.linear_normal.specs.declared.constraint.Item.TheVariants.{Truth}
-use Rattle.sum_propagator.specs.Sums.{are_items, is_item_of}
+use Rattle.numbering_laws.specs.Items.{are_items}
+use Rattle.sum_propagator.specs.Sums.{is_item_of}
 use Rattle.sum_trial.proofs.MoreLaws.{IsBefore, before_more, are_more, of_more}
 use Rattle.sum_trial.proofs.TrialLaws.{wide_more}
 use Rattle.sum_trial.proofs.wide.items_of.Goals as goal

@@ -1,7 +1,8 @@
 use Rattle.std.proofs.Common.{◌≡◌, ◌≤◌, ◌+◌, ◌-◌, IsTrue}
 use Rattle.std.specs.List.{AllByRecursion, list_all}
 use Rattle.trail.specs.declared.shape.Shape.{Shape}
-use Rattle.sum_propagator.specs.Sums.{are_items, is_item_of}
+use Rattle.numbering_laws.specs.Items.{are_items}
+use Rattle.sum_propagator.specs.Sums.{is_item_of}
 use Rattle.sum_trial.specs.Trials.{wide_items}
 use Rattle.sum_trial.proofs.MoreLaws.{IsBefore}
 use Rattle.sum_trial.proofs.wide.items_of.Given as goal
