@@ -5,3 +5,4 @@ pub mod LineLaws
 pub mod WriteLaws
 pub mod Turns
 pub mod NogoodLaws
+pub mod WholeLaws

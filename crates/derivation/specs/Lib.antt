@@ -2,3 +2,4 @@ pub mod Fields
 pub mod Spelling
 pub mod Reading
 pub mod Lists
+pub mod Whole

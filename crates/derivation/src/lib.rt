@@ -9,6 +9,7 @@
 mod fields;
 mod items;
 mod kinds;
+mod laws;
 mod line;
 mod lists;
 mod numbers;
@@ -16,6 +17,7 @@ mod ranges;
 mod read;
 mod write;
 
+pub use laws::{derivations_are_read_in_one_way, lines_end_in_nogoods, spellings_are_apart};
 pub use line::{Line, LineStop};
-pub use read::{read_line, spellings_are_apart};
+pub use read::read_line;
 pub use write::write_line;

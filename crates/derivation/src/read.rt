@@ -40,11 +40,6 @@ pub fn read_line(alloc: Global, bytes: &[u8]) -> Result<Line, LineStop>
     Ok(line)
 }
 
-/// Two lines of one spelling are one line. This call does nothing: its clause is a law that callers may use.
-pub fn spellings_are_apart()
-    ensures { (a b : LineValue) → IsLine a → IsLine b → spelling a ≡ spelling b → a ≡ b }
-{}
-
 // Whether the bytes are the spelling of the line.
 fn is_spelling(alloc: Global, line: &Line, bytes: &[u8]) -> Result<bool, Memory>
     ensures { IfOk result (λ same. IsTrue same ↔ (bytes.now ≡ spelling line.now)) }

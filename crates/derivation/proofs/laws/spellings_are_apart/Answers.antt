@@ -1,5 +1,5 @@
 use Rattle.derivation.proofs.LineLaws.{one_line}
-use Rattle.derivation.proofs.read.spellings_are_apart.Goals as goal
+use Rattle.derivation.proofs.laws.spellings_are_apart.Goals as goal
 
 pub returns : goal.returns
 returns c = one_line
