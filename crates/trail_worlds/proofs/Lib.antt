@@ -1,0 +1,9 @@
+pub mod InputLemmas
+pub mod TrailLemmas
+pub mod TruthLemmas
+pub mod AnswerLemmas
+pub mod SumLemmas
+pub mod CostLemmas
+pub mod CalmLemmas
+pub mod SayLemmas
+pub mod NameLemmas
