@@ -1,8 +1,9 @@
+pub mod ListLemmas
 pub mod NodeLemmas
+pub mod LayerLemmas
 pub mod OnceLemmas
 pub mod OrderLemmas
 pub mod CompareLemmas
 pub mod WriteLemmas
-pub mod CopyLemmas
 pub mod SortedLemmas
 pub mod TableLemmas

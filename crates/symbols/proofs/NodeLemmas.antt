@@ -1,157 +1,350 @@
--- Laws of what the nodes of a table stand for.
-use Rattle.std.proofs.Common.{◌≡◌, ℕ, zero, suc, ◌+◌, ◌<◌, max, List, [], ◌∷◌, ◌++◌, length, map, get_or, Some, refl, sym, ap, ◌∙◌, subst, arith, append_assoc, append-nil, length-append, slice_get, pos, add-zero, zero-add}
-use Rattle.std.proofs.lemmas.List.{get_or_append_left}
-use Rattle.std.proofs.lemmas.Option.{slice_get-get_or, slice_get_within, get_or_from_slice_get}
-use Rattle.std.proofs.Math.Seq.{get_or-append_seam}
-use Rattle.std.specs.List.{AllByRecursion, All}
-use Rattle.std.proofs.lemmas.List.Elements.{recursion_from_All}
-use Rattle.std.specs.String.{string_bytes}
-use Rattle.symbols.specs.declared.table.Node.{Node}
-use Rattle.symbols.specs.declared.table.Node.TheVariants.{Number as NumberNode, Identifier as IdentifierNode, Text as TextNode, Function as FunctionNode}
-use Rattle.symbols.specs.Symbol.{Symbol, Number, Function, MoreSymbols, depth, deepest}
-use Rattle.symbols.specs.Table.{symbol_at, symbols_at, IsFront}
-use Rattle.symbols.specs.Nodes.{symbol_of, symbols_on, symbols_of, IsBelow, AreBelow, deepest_at}
+-- Laws of nodes: which of them say the same, and what they say as names and lists are added.
+use Rattle.std.proofs.Common.{◌≡◌, ℕ, ℤ, ◌<◌, ◌≤◌, ◌^◌, List, [], ◌∷◌, ◌++◌, length, map, Some, Bool, true, false, cond, refl, sym, ap, ◌∙◌, subst, arith, rules, inl, inr, slice_get, ◌⊎◌, not, take, is_some, IfSome, IfNone, Option, None, option_map}
+use Rattle.std.proofs.lemmas.Bool.Decides.{Decides-eqb, Decides-int_eq}
+use Rattle.std.proofs.lemmas.List.{map-append}
+use Rattle.std.proofs.Common.{append-nil, zero, suc}
+use Rattle.std.proofs.lemmas.Option.{slice_get-get_or, slice_get-map, slice_get_within}
+use Rattle.std.proofs.lemmas.Slice.Eq.{slice_eq-Decides}
+use Rattle.std.specs.Bool.{Decides}
+use Rattle.std.specs.Cmp.Lexicographic.{pointwise}
+use Rattle.std.specs.List.{AllByRecursion, IsDistinct, list_any, position}
+use Rattle.symbols.specs.declared.layers.Node.{Node}
+use Rattle.symbols.specs.declared.layers.Node.TheVariants.{Number as NumberNode, Identifier as IdentifierNode, Text as TextNode, Short as ShortNode, Long as LongNode}
+use Rattle.symbols.specs.declared.layers.Layers.{Layers}
+use Rattle.symbols.specs.contracts.layers.NodePartialEq.TheImpl.{ghosts as node}
+use Rattle.symbols.specs.contracts.symbol_id.SymbolIdPartialEq.TheImpl.{ghosts as id}
+use Rattle.symbols.specs.inner.Layer.{Layer, NumberLayer, IdentifierLayer, TextLayer, FunctionLayer}
+use Rattle.symbols.specs.inner.Layers.{IsEachOnce, IsBegun, names_of, lists_of, list_at, padded, arg_at, IsPadded, layer_of, IsKnown, layers_of, AreLayers}
+use Rattle.symbols.proofs.ListLemmas.{AllByRecursion-push, AllByRecursion-map, at_place, map-found, found_at, absent_at, list_at-place, IsEachOnce-distinct, list_at-begun, length-begun, one_list}
 
--- one more node adds its symbol
-pub symbols_on-push : (before : List Symbol) (nodes : List Node) (node : Node)
-    → symbols_on before (nodes ++ node ∷ []) ≡ symbols_on before nodes ++ symbol_of (symbols_on before nodes) node ∷ []
-symbols_on-push before [] node = refl
-symbols_on-push before (n ∷ nodes) node = symbols_on-push (before ++ symbol_of before n ∷ []) nodes node
+-- `==` decides whether two lists of ids are one
+pub same_items : (xs ys : List ℕ) → Decides (pointwise id.eq xs ys) (xs ≡ ys)
+same_items xs ys = slice_eq-Decides {A = ℕ} {E = id.eq} Decides-eqb xs ys (pointwise id.eq xs ys) refl
 
-pub length-symbols_on : (before : List Symbol) (nodes : List Node) → length (symbols_on before nodes) ≡ length before + length nodes
-length-symbols_on before [] = omega arith
-length-symbols_on before (n ∷ nodes) = omega (arith, length-symbols_on (before ++ symbol_of before n ∷ []) nodes, length-append before (symbol_of before n ∷ []))
+-- a node is equal to itself by `==`
+pub node_itself : (a : Node) → node.eq a a ≡ true
+node_itself (NumberNode n) = (Decides-int_eq n n).1 refl
+node_itself (IdentifierNode name) = (Decides-eqb name name).1 refl
+node_itself (TextNode text) = (Decides-eqb text text).1 refl
+node_itself (ShortNode name count places) =
+    grind (arith, (Decides-eqb name name).1 refl, (Decides-eqb count count).1 refl, (same_items places places).1 refl)
+node_itself (LongNode name list) = grind (arith, (Decides-eqb name name).1 refl, (Decides-eqb list list).1 refl)
 
-pub length-symbols_of : (nodes : List Node) → length (symbols_of nodes) ≡ length nodes
-length-symbols_of nodes = omega (arith, length-symbols_on [] nodes)
+-- nodes that `==` finds equal are one
+pub same_node : (a b : Node) → node.eq a b ≡ true → a ≡ b
+same_node (NumberNode x) (NumberNode y) h = let e : x ≡ y = (Decides-int_eq x y).0 h in ap NumberNode e
+same_node (IdentifierNode x) (IdentifierNode y) h = let e : x ≡ y = (Decides-eqb x y).0 h in ap IdentifierNode e
+same_node (TextNode x) (TextNode y) h = let e : x ≡ y = (Decides-eqb x y).0 h in ap TextNode e
+same_node (ShortNode x c xs) (ShortNode y d ys) h =
+    let name : x ≡ y = grind arith in
+    let count : c ≡ d = grind arith in
+    let places : xs ≡ ys = grind (arith, same_items xs ys) in
+    (λ i. ShortNode (name i) (count i) (places i))
+same_node (LongNode x l) (LongNode y k) h =
+    let name : x ≡ y = grind arith in
+    let list : l ≡ k = grind arith in
+    (λ i. LongNode (name i) (list i))
+same_node (NumberNode x) (IdentifierNode y) h = cc
+same_node (NumberNode x) (TextNode y) h = cc
+same_node (NumberNode x) (ShortNode y d ys) h = cc
+same_node (NumberNode x) (LongNode y l) h = cc
+same_node (IdentifierNode x) (NumberNode y) h = cc
+same_node (IdentifierNode x) (TextNode y) h = cc
+same_node (IdentifierNode x) (ShortNode y d ys) h = cc
+same_node (IdentifierNode x) (LongNode y l) h = cc
+same_node (TextNode x) (NumberNode y) h = cc
+same_node (TextNode x) (IdentifierNode y) h = cc
+same_node (TextNode x) (ShortNode y d ys) h = cc
+same_node (TextNode x) (LongNode y l) h = cc
+same_node (ShortNode x c xs) (NumberNode y) h = cc
+same_node (ShortNode x c xs) (IdentifierNode y) h = cc
+same_node (ShortNode x c xs) (TextNode y) h = cc
+same_node (ShortNode x c xs) (LongNode y l) h = cc
+same_node (LongNode x l) (NumberNode y) h = cc
+same_node (LongNode x l) (IdentifierNode y) h = cc
+same_node (LongNode x l) (TextNode y) h = cc
+same_node (LongNode x l) (ShortNode y d ys) h = cc
 
--- the symbols of the nodes alone
-abbrev pub rest_of : List Symbol → List Node → List Symbol
-rest_of before [] = []
-rest_of before (node ∷ nodes) = symbol_of before node ∷ rest_of (before ++ symbol_of before node ∷ []) nodes
+-- ---- which nodes say the same
 
-pub symbols_on-rest : (before : List Symbol) (nodes : List Node) → symbols_on before nodes ≡ before ++ rest_of before nodes
-symbols_on-rest before [] = sym (append-nil before)
-symbols_on-rest before (n ∷ nodes) =
-    symbols_on-rest (before ++ symbol_of before n ∷ []) nodes ∙ append_assoc before (symbol_of before n ∷ []) (rest_of (before ++ symbol_of before n ∷ []) nodes)
+number_in : (x y : ℤ) → NumberLayer x ≡ NumberLayer y → x ≡ y
+number_in x y e = cc
 
--- arguments before the end mean the same with more behind
-pub symbols_at-more : (b c : List Symbol) (ids : List ℕ) → AllByRecursion (λ id. id < length b) ids → symbols_at (b ++ c) ids ≡ symbols_at b ids
-symbols_at-more b c [] h = refl
-symbols_at-more b c (id ∷ ids) h =
-    let first : symbol_at (b ++ c) id ≡ symbol_at b id = get_or_append_left b c (Number (pos 0)) id h.0 in
-    let others : symbols_at (b ++ c) ids ≡ symbols_at b ids = symbols_at-more b c ids h.1 in
-    (λ i. MoreSymbols (first i) (others i))
+identifier_in : (x y : List ℕ) → IdentifierLayer x ≡ IdentifierLayer y → x ≡ y
+identifier_in x y e = cc
 
-pub symbol_of-more : (b c : List Symbol) (node : Node) → IsBelow (length b) node → symbol_of (b ++ c) node ≡ symbol_of b node
-symbol_of-more b c (NumberNode n) h = refl
-symbol_of-more b c (IdentifierNode name) h = refl
-symbol_of-more b c (TextNode text) h = refl
-symbol_of-more b c (FunctionNode name args) h = ap (λ l. Function (string_bytes name) l) (symbols_at-more b c args.items h)
+text_in : (x y : List ℕ) → TextLayer x ≡ TextLayer y → x ≡ y
+text_in x y e = cc
 
-seam : (b : List Symbol) (s : Symbol) (r : List Symbol) → slice_get (b ++ s ∷ r) (length b + 0) ≡ Some s
-seam b s r =
-    let within : length b + 0 < length (b ++ s ∷ r) = omega (arith, length-append b (s ∷ r)) in
-    slice_get-get_or (b ++ s ∷ r) (length b + 0) s within ∙ ap Some (ap (λ i. get_or (b ++ s ∷ r) i s) (add-zero (length b)) ∙ get_or-append_seam b s r s)
+name_in : (x y xs ys : List ℕ) → FunctionLayer x xs ≡ FunctionLayer y ys → x ≡ y
+name_in x y xs ys e = cc
 
--- each place has the symbol of its node
-pub slice_get-symbols_on : (b : List Symbol) (nodes : List Node) (k : ℕ) (node : Node) → AreBelow (length b) nodes → slice_get nodes k ≡ Some node
-    → slice_get (symbols_on b nodes) (length b + k) ≡ Some (symbol_of (symbols_on b nodes) node)
-slice_get-symbols_on b [] k node below e = absurd (omega (arith, slice_get_within {A = Node} [] k node e))
-slice_get-symbols_on b (n ∷ nodes) zero node below e =
-    let s : Symbol = symbol_of b n in
-    let r : List Symbol = rest_of (b ++ s ∷ []) nodes in
-    let whole : symbols_on b (n ∷ nodes) ≡ b ++ s ∷ r = symbols_on-rest b (n ∷ nodes) in
-    let same : n ≡ node = cc in
-    let said : symbol_of (b ++ s ∷ r) n ≡ s = symbol_of-more b (s ∷ r) n below.0 in
-    let P : List Symbol → Type 0 = λ m. slice_get m (length b + 0) ≡ Some (symbol_of m node) in
-    subst P (sym whole) (seam b s r ∙ ap Some (sym said ∙ ap (symbol_of (b ++ s ∷ r)) same))
-slice_get-symbols_on b (n ∷ nodes) (suc k) node below e =
-    let s : Symbol = symbol_of b n in
-    let long : length (b ++ s ∷ []) ≡ length b + 1 = length-append b (s ∷ []) in
-    let later : AreBelow (length (b ++ s ∷ [])) nodes = subst (λ p. AreBelow p nodes) (sym long) below.1 in
-    let place : length (b ++ s ∷ []) + k ≡ length b + suc k = omega (arith, long) in
-    let m : List Symbol = symbols_on (b ++ s ∷ []) nodes in
-    subst (λ i. slice_get m i ≡ Some (symbol_of m node)) place (slice_get-symbols_on (b ++ s ∷ []) nodes k node later e)
+items_in : (x y xs ys : List ℕ) → FunctionLayer x xs ≡ FunctionLayer y ys → xs ≡ ys
+items_in x y xs ys e = cc
 
-pub slice_get-symbols_of : (nodes : List Node) (k : ℕ) (node : Node) → AreBelow 0 nodes → slice_get nodes k ≡ Some node
-    → slice_get (symbols_of nodes) k ≡ Some (symbol_of (symbols_of nodes) node)
-slice_get-symbols_of nodes k node below e =
-    subst (λ i. slice_get (symbols_of nodes) i ≡ Some (symbol_of (symbols_of nodes) node)) (zero-add k) (slice_get-symbols_on [] nodes k node below e)
+-- up to four arguments are not more than four
+few_or_many : (count : ℕ) (places : List ℕ) (lists : List (List ℕ)) (l : ℕ) → IsPadded count places → AllByRecursion (λ list. 4 < length list) lists → l < length lists
+    → take count places ≡ list_at lists l → ⊥
+few_or_many count places lists l p long within e =
+    let many : 4 < length (list_at lists l) = at_place (λ list. 4 < length list) lists l (list_at lists l) long (slice_get-get_or lists l [] within) in
+    omega (arith, many, ap length e, p.long, p.few)
 
-pub AreBelow-push : (place : ℕ) (nodes : List Node) (node : Node) → AreBelow place nodes → IsBelow (place + length nodes) node → AreBelow place (nodes ++ node ∷ [])
-AreBelow-push place [] node below h = (subst (λ p. IsBelow p node) (add-zero place) h, tt)
-AreBelow-push place (n ∷ nodes) node below h =
-    let next : place + length (n ∷ nodes) ≡ place + 1 + length nodes = omega arith in
-    (below.0, AreBelow-push (place + 1) nodes node below.1 (subst (λ p. IsBelow p node) next h))
+-- nodes that are known and say the same are one
+pub said_once : (names lists : List (List ℕ)) (a b : Node) → IsEachOnce names → IsEachOnce lists → AllByRecursion (λ list. 4 < length list) lists
+    → IsKnown (length names) (length lists) a → IsKnown (length names) (length lists) b → layer_of names lists a ≡ layer_of names lists b → a ≡ b
+said_once names lists (NumberNode x) (NumberNode y) once each long p q e = ap NumberNode (number_in x y e)
+said_once names lists (IdentifierNode x) (IdentifierNode y) once each long p q e = ap IdentifierNode (one_list names x y once p q (identifier_in _ _ e))
+said_once names lists (TextNode x) (TextNode y) once each long p q e = ap TextNode (one_list names x y once p q (text_in _ _ e))
+said_once names lists (ShortNode x c xs) (ShortNode y d ys) once each long p q e =
+    let name : x ≡ y = one_list names x y once p.0 q.0 (name_in _ _ _ _ e) in
+    let items : take c xs ≡ take d ys = items_in _ _ _ _ e in
+    let count : c ≡ d = sym p.1.long ∙ ap length items ∙ q.1.long in
+    let places : xs ≡ ys = p.1.zeros ∙ ap padded items ∙ sym q.1.zeros in
+    (λ i. ShortNode (name i) (count i) (places i))
+said_once names lists (LongNode x l) (LongNode y k) once each long p q e =
+    let name : x ≡ y = one_list names x y once p.0 q.0 (name_in _ _ _ _ e) in
+    let list : l ≡ k = one_list lists l k each p.1 q.1 (items_in _ _ _ _ e) in
+    (λ i. LongNode (name i) (list i))
+said_once names lists (ShortNode x c xs) (LongNode y l) once each long p q e = absurd (few_or_many c xs lists l p.1 long q.1 (items_in _ _ _ _ e))
+said_once names lists (LongNode x l) (ShortNode y c ys) once each long p q e = absurd (few_or_many c ys lists l q.1 long p.1 (sym (items_in _ _ _ _ e)))
+said_once names lists (NumberNode x) (IdentifierNode y) once each long p q e = cc
+said_once names lists (NumberNode x) (TextNode y) once each long p q e = cc
+said_once names lists (NumberNode x) (ShortNode y d ys) once each long p q e = cc
+said_once names lists (NumberNode x) (LongNode y l) once each long p q e = cc
+said_once names lists (IdentifierNode x) (NumberNode y) once each long p q e = cc
+said_once names lists (IdentifierNode x) (TextNode y) once each long p q e = cc
+said_once names lists (IdentifierNode x) (ShortNode y d ys) once each long p q e = cc
+said_once names lists (IdentifierNode x) (LongNode y l) once each long p q e = cc
+said_once names lists (TextNode x) (NumberNode y) once each long p q e = cc
+said_once names lists (TextNode x) (IdentifierNode y) once each long p q e = cc
+said_once names lists (TextNode x) (ShortNode y d ys) once each long p q e = cc
+said_once names lists (TextNode x) (LongNode y l) once each long p q e = cc
+said_once names lists (ShortNode x c xs) (NumberNode y) once each long p q e = cc
+said_once names lists (ShortNode x c xs) (IdentifierNode y) once each long p q e = cc
+said_once names lists (ShortNode x c xs) (TextNode y) once each long p q e = cc
+said_once names lists (LongNode x l) (NumberNode y) once each long p q e = cc
+said_once names lists (LongNode x l) (IdentifierNode y) once each long p q e = cc
+said_once names lists (LongNode x l) (TextNode y) once each long p q e = cc
 
--- the symbols stay in front where a node is added
-pub IsFront-push : (nodes : List Node) (node : Node) → IsFront (symbols_of nodes) (symbols_of (nodes ++ node ∷ []))
-IsFront-push nodes node = (symbol_of (symbols_of nodes) node ∷ [], symbols_on-push [] nodes node)
+-- ---- more names and lists
 
-pub IsFront-same : (symbols : List Symbol) → IsFront symbols symbols
-IsFront-same symbols = ([], sym (append-nil symbols))
+pub layer_of-begun : (names lists names' lists' : List (List ℕ)) (a : Node) → IsBegun names names' → IsBegun lists lists' → IsKnown (length names) (length lists) a
+    → layer_of names' lists' a ≡ layer_of names lists a
+layer_of-begun names lists names' lists' (NumberNode n) p q h = refl
+layer_of-begun names lists names' lists' (IdentifierNode name) p q h = ap IdentifierLayer (list_at-begun names names' name p h)
+layer_of-begun names lists names' lists' (TextNode text) p q h = ap TextLayer (list_at-begun names names' text p h)
+layer_of-begun names lists names' lists' (ShortNode name count places) p q h = ap (λ n. FunctionLayer n (take count places)) (list_at-begun names names' name p h.0)
+layer_of-begun names lists names' lists' (LongNode name list) p q h =
+    (λ i. FunctionLayer (list_at-begun names names' name p h.0 i) (list_at-begun lists lists' list q h.1 i))
 
--- the place that has a node that says the same has its symbol
-pub slice_get-placed : (old new : List Node) (node k : Node) (place : ℕ) → AreBelow 0 new → IsBelow (length old) node → slice_get new place ≡ Some k
-    → ((m : List Symbol) → symbol_of m node ≡ symbol_of m k)
-    → IsFront (symbols_of old) (symbols_of new) → slice_get (symbols_of new) place ≡ Some (symbol_of (symbols_of old) node)
-slice_get-placed old new node k place below h e same front =
-    let m : List Symbol = symbols_of old in
-    let found : slice_get (symbols_of new) place ≡ Some (symbol_of (symbols_of new) k) = slice_get-symbols_of new place k below e in
-    let long : length old ≡ length m = omega (arith, length-symbols_of old) in
-    let stays : symbol_of (m ++ front.0) node ≡ symbol_of m node = symbol_of-more m front.0 node (subst (λ p. IsBelow p node) long h) in
-    found ∙ ap Some (sym (same (symbols_of new)) ∙ ap (λ l. symbol_of l node) front.1 ∙ stays)
+pub IsKnown-more : (n m k l : ℕ) (a : Node) → n ≤ k → m ≤ l → IsKnown n m a → IsKnown k l a
+IsKnown-more n m k l (NumberNode x) p q h = tt
+IsKnown-more n m k l (IdentifierNode name) p q h = omega (arith, h)
+IsKnown-more n m k l (TextNode text) p q h = omega (arith, h)
+IsKnown-more n m k l (ShortNode name count places) p q h = (omega (arith, h.0), h.1)
+IsKnown-more n m k l (LongNode name list) p q h = (omega (arith, h.0), omega (arith, h.1))
 
--- arguments that are places of the table are below its next place
-pub IsBelow-args : (nodes : List Node) (symbols : List Symbol) (ids given : List ℕ) → ids ≡ given → symbols_of nodes ≡ symbols → All (λ id. id < length symbols) given
-    → AllByRecursion (λ id. id < length nodes) ids
-IsBelow-args nodes symbols ids given same view h =
-    let long : length symbols ≡ length nodes = omega (arith, length-symbols_of nodes, ap length view) in
-    subst (λ l. AllByRecursion (λ id. id < length nodes) l) (sym same) (subst (λ n. AllByRecursion (λ id. id < n) given) long (recursion_from_All _ given h))
+said_begun : (names lists names' lists' : List (List ℕ)) (nodes : List Node) → IsBegun names names' → IsBegun lists lists' → AllByRecursion (IsKnown (length names) (length lists)) nodes
+    → map (layer_of names' lists') nodes ≡ map (layer_of names lists) nodes
+said_begun names lists names' lists' [] p q all = refl
+said_begun names lists names' lists' (a ∷ nodes) p q all =
+    let first : layer_of names' lists' a ≡ layer_of names lists a = layer_of-begun names lists names' lists' a p q all.0 in
+    let others : map (layer_of names' lists') nodes ≡ map (layer_of names lists) nodes = said_begun names lists names' lists' nodes p q all.1 in
+    (λ i. first i ∷ others i)
 
--- the depths that are kept are those of the symbols
-get_or-map_depth : (symbols : List Symbol) (place : ℕ) → place < length symbols → get_or (map depth symbols) place 0 ≡ depth (symbol_at symbols place)
-get_or-map_depth [] place h = absurd (omega arith)
-get_or-map_depth (s ∷ symbols) zero h = refl
-get_or-map_depth (s ∷ symbols) (suc place) h = get_or-map_depth symbols place (omega arith)
+-- the layers stay as names and lists are added
+pub layers-begun : (old new : Layers) → AreLayers old → new.nodes.keys ≡ old.nodes.keys → IsBegun (names_of old) (names_of new) → IsBegun (lists_of old) (lists_of new)
+    → layers_of new ≡ layers_of old
+layers-begun old new are same p q =
+    ap (map (layer_of (names_of new) (lists_of new))) same ∙ said_begun (names_of old) (lists_of old) (names_of new) (lists_of new) old.nodes.keys p q are.known
 
-pub deepest_at-depths : (symbols : List Symbol) (places : List ℕ) → AllByRecursion (λ id. id < length symbols) places
-    → deepest_at (map depth symbols) places ≡ deepest (symbols_at symbols places)
-deepest_at-depths symbols [] h = refl
-deepest_at-depths symbols (place ∷ places) h =
-    let first : get_or (map depth symbols) place 0 ≡ depth (symbol_at symbols place) = get_or-map_depth symbols place h.0 in
-    let others : deepest_at (map depth symbols) places ≡ deepest (symbols_at symbols places) = deepest_at-depths symbols places h.1 in
-    (λ i. max (first i) (others i))
+pub AreLayers-begun : (old new : Layers) → AreLayers old → new.nodes.keys ≡ old.nodes.keys
+    → IsBegun (names_of old) (names_of new) → IsEachOnce (names_of new) → length (names_of new) < 2 ^ 32
+    → IsBegun (lists_of old) (lists_of new) → IsEachOnce (lists_of new) → length (lists_of new) < 2 ^ 32 → AllByRecursion (λ list. 4 < length list) (lists_of new)
+    → AreLayers new
+AreLayers-begun old new are same p once few q each short long =
+    let fewer : length (names_of old) ≤ length (names_of new) = length-begun (names_of old) (names_of new) p in
+    let shorter : length (lists_of old) ≤ length (lists_of new) = length-begun (lists_of old) (lists_of new) q in
+    let known : AllByRecursion (IsKnown (length (names_of new)) (length (lists_of new))) old.nodes.keys =
+    AllByRecursion-map _ _ (λ a. IsKnown-more _ _ _ _ a fewer shorter) old.nodes.keys are.known in
+    record {
+      known = subst (AllByRecursion (IsKnown (length (names_of new)) (length (lists_of new)))) (sym same) known;
+      names = once;
+      lists = each;
+      nodes = subst IsEachOnce (sym same) are.nodes;
+      long = long;
+      few_names = few;
+      few_lists = short;
+    }
 
-pub map-depth-push : (symbols : List Symbol) (s : Symbol) → map depth (symbols ++ s ∷ []) ≡ map depth symbols ++ depth s ∷ []
-map-depth-push [] s = refl
-map-depth-push (x ∷ symbols) s = ap (λ l. depth x ∷ l) (map-depth-push symbols s)
+-- ---- more names alone, and then more lists
 
-pub AllByRecursion-push : {X : Type 0} (P : X → Type 0) (xs : List X) (x : X) → AllByRecursion P xs → P x → AllByRecursion P (xs ++ x ∷ [])
-AllByRecursion-push P [] x all p = (p, tt)
-AllByRecursion-push P (y ∷ xs) x all p = (all.0, AllByRecursion-push P xs x all.1 p)
+begun-same : {X : Type 0} (old new : List X) → new ≡ old → IsBegun old new
+begun-same old new e = ([], e ∙ sym (append-nil old))
 
--- the greatest depth that is kept of a table's arguments is theirs
-pub deepest-args : (nodes : List Node) (kept : List ℕ) (symbols : List Symbol) (given : List ℕ) → symbols_of nodes ≡ symbols → kept ≡ map depth (symbols_of nodes)
-    → All (λ id. id < length symbols) given → deepest_at kept given ≡ deepest (symbols_at symbols given)
-deepest-args nodes kept symbols given view depths h =
-    ap (λ l. deepest_at l given) (depths ∙ ap (map depth) view) ∙ deepest_at-depths symbols given (recursion_from_All _ given h)
+pub layers-names : (old new : Layers) → AreLayers old → new.nodes.keys ≡ old.nodes.keys → lists_of new ≡ lists_of old → IsBegun (names_of old) (names_of new) → layers_of new ≡ layers_of old
+layers-names old new are nodes lists p = layers-begun old new are nodes p (begun-same (lists_of old) (lists_of new) lists)
 
--- the depth that is found among the kept ones, through a slice of them
-pub found-deepest : (nodes : List Node) (kept slice : List ℕ) (symbols : List Symbol) (given : List ℕ) (found : ℕ) → symbols_of nodes ≡ symbols
-    → kept ≡ map depth (symbols_of nodes) → All (λ id. id < length symbols) given → slice ≡ kept → found ≡ deepest_at slice given → found ≡ deepest (symbols_at symbols given)
-found-deepest nodes kept slice symbols given found view depths h same e =
-    e ∙ ap (λ l. deepest_at l given) same ∙ deepest-args nodes kept symbols given view depths h
+pub AreLayers-names : (old new : Layers) → AreLayers old → new.nodes.keys ≡ old.nodes.keys → lists_of new ≡ lists_of old
+    → IsBegun (names_of old) (names_of new) → IsEachOnce (names_of new) → length (names_of new) < 2 ^ 32 → AreLayers new
+AreLayers-names old new are nodes lists p once few =
+    AreLayers-begun old new are nodes p once few (begun-same (lists_of old) (lists_of new) lists) (subst IsEachOnce (sym lists) are.lists)
+    (subst (λ (l : List (List ℕ)). length l < 2 ^ 32) (sym lists) are.few_lists) (subst (AllByRecursion (λ list. 4 < length list)) (sym lists) are.long)
 
--- an id of the table is a place of its nodes
-pub place-within : (nodes : List Node) (symbols : List Symbol) (id place : ℕ) → symbols_of nodes ≡ symbols → place ≡ id → id < length symbols → place < length nodes
-place-within nodes symbols id place view same h = omega (arith, length-symbols_of nodes, ap length view)
+pub lists-begun : (old new : List (List ℕ)) (list : List ℕ) → (new ≡ old) ⊎ (new ≡ old ++ list ∷ []) → IsBegun old new
+lists-begun old new list (inl e) = begun-same old new e
+lists-begun old new list (inr e) = (list ∷ [], e)
 
--- the symbol of an id is that of its node
-pub symbol_at-id : (nodes : List Node) (symbols : List Symbol) (id place : ℕ) (node : Node) → symbols_of nodes ≡ symbols → AreBelow 0 nodes → place ≡ id → slice_get nodes place ≡ Some node
-    → symbol_at symbols id ≡ symbol_of symbols node
-symbol_at-id nodes symbols id place node view below same e =
-    let P : List Symbol → Type 0 = λ l. symbol_at l id ≡ symbol_of l node in
-    subst P view (ap (symbol_at (symbols_of nodes)) (sym same)
-    ∙ get_or_from_slice_get (symbols_of nodes) place (symbol_of (symbols_of nodes) node) (Number (pos 0)) (slice_get-symbols_of nodes place node below e))
+pub lists-long : (old new : List (List ℕ)) (list : List ℕ) → (new ≡ old) ⊎ (new ≡ old ++ list ∷ []) → AllByRecursion (λ l. 4 < length l) old → 4 < length list → AllByRecursion (λ l. 4 < length l) new
+lists-long old new list (inl e) all many = subst (AllByRecursion (λ l. 4 < length l)) (sym e) all
+lists-long old new list (inr e) all many = subst (AllByRecursion (λ l. 4 < length l)) (sym e) (AllByRecursion-push (λ l. 4 < length l) old list all many)
+
+-- ---- one more node
+
+-- the nodes after an insertion are those before, with the new one behind where it is not among them
+pub keys_same : (held added : Bool) (old new : List Node) (a : Node) → new ≡ cond held old (old ++ a ∷ []) → added ≡ not held → added ≡ false → new ≡ old
+keys_same true added old new a e is off = e
+keys_same false added old new a e is off = cc
+
+pub keys_push : (held added : Bool) (old new : List Node) (a : Node) → new ≡ cond held old (old ++ a ∷ []) → added ≡ not held → added ≡ true → new ≡ old ++ a ∷ []
+keys_push true added old new a e is on = cc
+keys_push false added old new a e is on = e
+
+pub known_keys : (n m : ℕ) (held : Bool) (old new : List Node) (a : Node) → new ≡ cond held old (old ++ a ∷ []) → AllByRecursion (IsKnown n m) old → IsKnown n m a → AllByRecursion (IsKnown n m) new
+known_keys n m true old new a e all p = subst (AllByRecursion (IsKnown n m)) (sym e) all
+known_keys n m false old new a e all p = subst (AllByRecursion (IsKnown n m)) (sym e) (AllByRecursion-push (IsKnown n m) old a all p)
+
+pub AreLayers-insert : (old new : Layers) (a : Node) (held : Bool) → AreLayers old → names_of new ≡ names_of old → lists_of new ≡ lists_of old
+    → new.nodes.keys ≡ cond held old.nodes.keys (old.nodes.keys ++ a ∷ []) → IsKnown (length (names_of old)) (length (lists_of old)) a → IsDistinct node.eq new.nodes.keys → AreLayers new
+AreLayers-insert old new a held are names lists keys known distinct =
+    let all : AllByRecursion (IsKnown (length (names_of old)) (length (lists_of old))) new.nodes.keys = known_keys _ _ held old.nodes.keys new.nodes.keys a keys are.known known in
+    record {
+      known = subst (λ l. AllByRecursion (IsKnown (length (names_of new)) (length l)) new.nodes.keys) (sym lists)
+          (subst (λ n. AllByRecursion (IsKnown (length n) (length (lists_of old))) new.nodes.keys) (sym names) all);
+      names = subst IsEachOnce (sym names) are.names;
+      lists = subst IsEachOnce (sym lists) are.lists;
+      nodes = IsEachOnce-distinct node.eq node_itself new.nodes.keys distinct;
+      long = subst (AllByRecursion (λ list. 4 < length list)) (sym lists) are.long;
+      few_names = subst (λ (n : List (List ℕ)). length n < 2 ^ 32) (sym names) are.few_names;
+      few_lists = subst (λ (l : List (List ℕ)). length l < 2 ^ 32) (sym lists) are.few_lists;
+    }
+
+-- layers with the same names, lists and nodes
+pub AreLayers-same : (old new : Layers) → AreLayers old → names_of new ≡ names_of old → lists_of new ≡ lists_of old → new.nodes.keys ≡ old.nodes.keys → AreLayers new
+AreLayers-same old new are names lists nodes =
+    record {
+      known = subst (λ k. AllByRecursion (IsKnown (length (names_of new)) (length (lists_of new))) k) (sym nodes)
+          (subst (λ l. AllByRecursion (IsKnown (length (names_of new)) (length l)) old.nodes.keys) (sym lists)
+          (subst (λ n. AllByRecursion (IsKnown (length n) (length (lists_of old))) old.nodes.keys) (sym names) are.known));
+      names = subst IsEachOnce (sym names) are.names;
+      lists = subst IsEachOnce (sym lists) are.lists;
+      nodes = subst IsEachOnce (sym nodes) are.nodes;
+      long = subst (AllByRecursion (λ list. 4 < length list)) (sym lists) are.long;
+      few_names = subst (λ (n : List (List ℕ)). length n < 2 ^ 32) (sym names) are.few_names;
+      few_lists = subst (λ (l : List (List ℕ)). length l < 2 ^ 32) (sym lists) are.few_lists;
+    }
+
+pub layers-same : (old new : Layers) → names_of new ≡ names_of old → lists_of new ≡ lists_of old → new.nodes.keys ≡ old.nodes.keys → layers_of new ≡ layers_of old
+layers-same old new names lists nodes = λ i. map (layer_of (names i) (lists i)) (nodes i)
+
+-- each layer stands once
+pub IsEachOnce-layers : (layers : Layers) → AreLayers layers → IsEachOnce (layers_of layers)
+IsEachOnce-layers layers are a b x ea eb =
+    let p = map-found (layer_of (names_of layers) (lists_of layers)) layers.nodes.keys a x ea in
+    let q = map-found (layer_of (names_of layers) (lists_of layers)) layers.nodes.keys b x eb in
+    let one : p.0 ≡ q.0 = said_once (names_of layers) (lists_of layers) p.0 q.0 are.names are.lists are.long
+    (at_place _ layers.nodes.keys a p.0 are.known p.1) (at_place _ layers.nodes.keys b q.0 are.known q.1) (p.2 ∙ sym q.2) in
+    are.nodes a b p.0 p.1 (q.1 ∙ ap Some (sym one))
+
+-- ---- what is found
+
+-- up to four arguments are the first of their places
+taken-padded : (args : List ℕ) → length args ≤ 4 → take (length args) (padded args) ≡ args
+taken-padded [] few = refl
+taken-padded (a ∷ []) few = refl
+taken-padded (a ∷ b ∷ []) few = refl
+taken-padded (a ∷ b ∷ c ∷ []) few = refl
+taken-padded (a ∷ b ∷ c ∷ d ∷ []) few = refl
+taken-padded (a ∷ b ∷ c ∷ d ∷ e ∷ args) few = absurd (omega (arith, few))
+
+pub IsKnown-short : (n m name : ℕ) (args : List ℕ) → name < n → length args ≤ 4 → IsKnown n m (ShortNode name (length args) (padded args))
+IsKnown-short n m name args within few =
+    let items : take (length args) (padded args) ≡ args = taken-padded args few in
+    (within, record { few = few; long = ap length items; zeros = ap padded (sym items) })
+
+pub short-says : (names lists : List (List ℕ)) (name : ℕ) (args : List ℕ) → length args ≤ 4 → layer_of names lists (ShortNode name (length args) (padded args)) ≡ FunctionLayer (list_at names name) args
+short-says names lists name args few = ap (FunctionLayer (list_at names name)) (taken-padded args few)
+
+-- the place that a look-up of a node finds has the layer that the node says
+pub found-node : (layers : Layers) (a : Node) (layer : Layer) (found : Option ℕ) → found ≡ position (node.eq a) layers.nodes.keys → layer_of (names_of layers) (lists_of layers) a ≡ layer
+    → IfSome found (λ place. slice_get (layers_of layers) place ≡ Some layer)
+found-node layers a layer None e says = tt
+found-node layers a layer (Some place) e says =
+    found_at (node.eq a) (layer_of (names_of layers) (lists_of layers)) layer (λ x h. ap (layer_of (names_of layers) (lists_of layers)) (sym (same_node a x h)) ∙ says) layers.nodes.keys place (sym e)
+
+-- and where it finds none, there is none
+pub absent-node : (layers : Layers) (a : Node) (layer : Layer) (found : Option ℕ) → AreLayers layers → IsKnown (length (names_of layers)) (length (lists_of layers)) a
+    → layer_of (names_of layers) (lists_of layers) a ≡ layer → is_some found ≡ list_any (node.eq a) layers.nodes.keys → IfNone found ((place : ℕ) → ¬ (slice_get (layers_of layers) place ≡ Some layer))
+absent-node layers a layer (Some place) are known says e = tt
+absent-node layers a layer None are known says e = λ place at.
+    absent_at (node.eq a) (layer_of (names_of layers) (lists_of layers)) layer layers.nodes.keys place
+    (λ x here said. subst (λ z. node.eq a z ≡ true)
+    (said_once (names_of layers) (lists_of layers) a x are.names are.lists are.long known (at_place _ layers.nodes.keys place x are.known here) (says ∙ sym said)) (node_itself a))
+    (sym e) at
+
+-- the name in a layer
+abbrev pub name_in_layer : Layer → Option (List ℕ)
+name_in_layer (NumberLayer n) = None
+name_in_layer (IdentifierLayer name) = Some name
+name_in_layer (TextLayer text) = Some text
+name_in_layer (FunctionLayer name args) = Some name
+
+named-node : (names lists : List (List ℕ)) (a : Node) (name : List ℕ) → IsKnown (length names) (length lists) a → name_in_layer (layer_of names lists a) ≡ Some name → (n : ℕ) × (slice_get names n ≡ Some name)
+named-node names lists (NumberNode n) name h e = cc
+named-node names lists (IdentifierNode n) name h e = (n, slice_get-get_or names n [] h ∙ e)
+named-node names lists (TextNode n) name h e = (n, slice_get-get_or names n [] h ∙ e)
+named-node names lists (ShortNode n count places) name h e = (n, slice_get-get_or names n [] h.0 ∙ e)
+named-node names lists (LongNode n list) name h e = (n, slice_get-get_or names n [] h.0 ∙ e)
+
+-- a layer whose name is no name of the layers is not among them
+pub absent-name : (layers : Layers) (name : List ℕ) (layer : Layer) → AreLayers layers → ((n : ℕ) → ¬ (slice_get (names_of layers) n ≡ Some name)) → name_in_layer layer ≡ Some name
+    → (place : ℕ) → ¬ (slice_get (layers_of layers) place ≡ Some layer)
+absent-name layers name layer are absent named place at =
+    let x = map-found (layer_of (names_of layers) (lists_of layers)) layers.nodes.keys place layer at in
+    let n = named-node (names_of layers) (lists_of layers) x.0 name (at_place _ layers.nodes.keys place x.0 are.known x.1) (ap name_in_layer x.2 ∙ named) in
+    absent n.0 n.1
+
+listed-node : (names lists : List (List ℕ)) (a : Node) (name args : List ℕ) → IsKnown (length names) (length lists) a → 4 < length args → layer_of names lists a ≡ FunctionLayer name args
+    → (n : ℕ) × (slice_get lists n ≡ Some args)
+listed-node names lists (NumberNode n) name args h many e = cc
+listed-node names lists (IdentifierNode n) name args h many e = cc
+listed-node names lists (TextNode n) name args h many e = cc
+listed-node names lists (ShortNode n count places) name args h many e =
+    absurd (omega (arith, many, ap length (items_in _ _ _ _ e), h.1.long, h.1.few))
+listed-node names lists (LongNode n list) name args h many e = (list, slice_get-get_or lists list [] h.1 ∙ ap Some (items_in _ _ _ _ e))
+
+-- and so it is with a long list of arguments
+pub absent-list : (layers : Layers) (name args : List ℕ) → AreLayers layers → 4 < length args → ((n : ℕ) → ¬ (slice_get (lists_of layers) n ≡ Some args))
+    → (place : ℕ) → ¬ (slice_get (layers_of layers) place ≡ Some (FunctionLayer name args))
+absent-list layers name args are many absent place at =
+    let x = map-found (layer_of (names_of layers) (lists_of layers)) layers.nodes.keys place (FunctionLayer name args) at in
+    let n = listed-node (names_of layers) (lists_of layers) x.0 name args (at_place _ layers.nodes.keys place x.0 are.known x.1) many x.2 in
+    absent n.0 n.1
+
+-- the place that an insertion gives has the layer that the node says
+pub placed-node : (layers : Layers) (a b : Node) (layer : Layer) (place : ℕ) → slice_get layers.nodes.keys place ≡ Some b → node.eq a b ≡ true → layer_of (names_of layers) (lists_of layers) a ≡ layer
+    → slice_get (layers_of layers) place ≡ Some layer
+placed-node layers a b layer place e same says =
+    slice_get-map (layer_of (names_of layers) (lists_of layers)) layers.nodes.keys place ∙ ap (option_map (layer_of (names_of layers) (lists_of layers))) e
+    ∙ ap Some (ap (layer_of (names_of layers) (lists_of layers)) (sym (same_node a b same)) ∙ says)
+
+-- names, and lists, stay as one is inserted
+pub IsBegun-insert : {X Y : Type 0} (f : X → Y) (held : Bool) (old new : List X) (a : X) → new ≡ cond held old (old ++ a ∷ []) → IsBegun (map f old) (map f new)
+IsBegun-insert f true old new a e = ([], ap (map f) e ∙ sym (append-nil (map f old)))
+IsBegun-insert f false old new a e = (f a ∷ [], ap (map f) e ∙ map-append f old (a ∷ []))
+
+-- the layers with one more node
+pub layers-push : (old new : Layers) (a : Node) (layer : Layer) → names_of new ≡ names_of old → lists_of new ≡ lists_of old → new.nodes.keys ≡ old.nodes.keys ++ a ∷ []
+    → layer_of (names_of old) (lists_of old) a ≡ layer → layers_of new ≡ layers_of old ++ layer ∷ []
+layers-push old new a layer names lists nodes says =
+    (λ i. map (layer_of (names i) (lists i)) (nodes i)) ∙ map-append (layer_of (names_of old) (lists_of old)) old.nodes.keys (a ∷ []) ∙ ap (λ l. layers_of old ++ l ∷ []) says

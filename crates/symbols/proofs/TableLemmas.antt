@@ -6,7 +6,7 @@ use Rattle.std.specs.List.{All}
 use Rattle.std.proofs.lemmas.List.Elements.{recursion_from_All}
 use Rattle.symbols.specs.Symbol.{Symbol, Number, Function}
 use Rattle.symbols.specs.Table.{symbol_at, applied, IsFront}
-use Rattle.symbols.proofs.NodeLemmas.{symbols_at-more}
+use Rattle.symbols.proofs.LayerLemmas.{symbols_at-more}
 
 pub IsFront-itself : (symbols : List Symbol) → IsFront symbols symbols
 IsFront-itself symbols = ([], sym (append-nil symbols))

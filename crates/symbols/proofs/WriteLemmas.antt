@@ -5,7 +5,7 @@ use Rattle.std.proofs.lemmas.List.{drop_all}
 use Rattle.symbols.specs.Symbol.{Symbol, Symbols, NoSymbols, MoreSymbols, arity}
 use Rattle.symbols.specs.Table.{symbol_at, symbols_at, applied}
 use Rattle.symbols.specs.Text.{symbol_text, args_text, rest_text, closing}
-use Rattle.symbols.specs.Nodes.{separator}
+use Rattle.symbols.specs.inner.Layer.{Layer, NumberLayer, IdentifierLayer, TextLayer, FunctionLayer, separator}
 use Rattle.symbols.proofs.CompareLemmas.{arity-symbols_at}
 
 -- the text of the arguments from a place on

@@ -3,6 +3,6 @@ pub mod SymbolCode
 pub mod Order
 pub mod Text
 pub mod Table
-pub mod Nodes
 pub mod View
 pub mod Sorted
+pub mod inner

@@ -11,11 +11,11 @@ impl SymbolTable {
         ensures same { IfOk result (λ table. table ≡ self.now) }
         ensures once { IfOk result IsOnce }
     {
-        let nodes = self.nodes.clone()?;
+        let layers = self.layers.copy()?;
         let depths = self.depths.clone()?;
         Ok(SymbolTable {
             alloc: self.alloc,
-            nodes,
+            layers,
             depths,
         })
     }

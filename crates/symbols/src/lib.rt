@@ -8,6 +8,8 @@
 
 mod copy;
 mod ends;
+mod find;
+mod layers;
 pub mod limits;
 mod listed;
 mod memory;

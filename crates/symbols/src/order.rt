@@ -5,11 +5,13 @@ ghost use Rattle.std.specs.declared.cmp.Ordering.TheVariants.{Less, Equal};
 ghost use Rattle.symbols.specs.Symbol.{Symbol};
 ghost use Rattle.symbols.specs.Order.{symbol_cmp};
 ghost use Rattle.symbols.specs.Table.{IsOnce, symbol_at};
-ghost use Rattle.symbols.specs.Nodes.{AreBelow, symbols_of, args_in, kind_of, heads_cmp, first_apart};
+ghost use Rattle.symbols.specs.inner.Layer.{AreBelow, shown, symbols_of, args_in, kind_of, heads_cmp, first_apart};
+ghost use Rattle.symbols.specs.inner.Layers.{AreLayers, layers_of};
 
+use crate::layers::Layers;
 use crate::symbol_id::SymbolId;
-use crate::table::{Node, SymbolTable};
-use indexmap::IndexSet;
+use crate::symbol_view::SymbolView;
+use crate::table::SymbolTable;
 use std::cmp::Ordering;
 
 impl SymbolTable {
@@ -22,7 +24,7 @@ impl SymbolTable {
         requires b { b < length self.now }
         ensures { result ≡ symbol_cmp (symbol_at self.now a) (symbol_at self.now b) }
     {
-        compare_places(&self.nodes, a.place(), b.place())
+        compare_places(&self.layers, a.place(), b.place())
     }
 }
 
@@ -36,58 +38,61 @@ pub fn symbols_are_ordered()
 {}
 
 // How the symbol at a place stands to that at another.
-fn compare_places(nodes: &IndexSet<Node>, a: usize, b: usize) -> Ordering
-    requires before { AreBelow 0 nodes.now.keys }
-    requires once { IsOnce (symbols_of nodes.now.keys) }
-    requires a { a < length nodes.now.keys }
-    requires b { b < length nodes.now.keys }
-    ensures { result ≡ symbol_cmp (symbol_at (symbols_of nodes.now.keys) a) (symbol_at (symbols_of nodes.now.keys) b) }
+fn compare_places(layers: &Layers, a: usize, b: usize) -> Ordering
+    requires layers { AreLayers layers.now }
+    requires before { AreBelow 0 (layers_of layers.now) }
+    requires once { IsOnce (symbols_of (layers_of layers.now)) }
+    requires a { a < length (layers_of layers.now) }
+    requires b { b < length (layers_of layers.now) }
+    ensures { result ≡ symbol_cmp (symbol_at (symbols_of (layers_of layers.now)) a) (symbol_at (symbols_of (layers_of layers.now)) b) }
 {
     if a == b {
         return Ordering::Equal;
     }
-    let first = &nodes[a];
-    let second = &nodes[b];
+    let first = layers.view(a);
+    let second = layers.view(b);
     match compare_heads(first, second) {
         Ordering::Equal => match ids_apart(args_of(first), args_of(second)) {
-            Some((x, y)) => compare_places(nodes, x.place(), y.place()),
+            Some((x, y)) => compare_places(layers, x.place(), y.place()),
             None => Ordering::Equal,
         },
         other => other,
     }
 }
 
-// How a node stands to another, but for the arguments themselves.
-fn compare_heads(a: &Node, b: &Node) -> Ordering
-    ensures { result ≡ heads_cmp a.now b.now }
+// How a layer stands to another, but for the arguments themselves.
+fn compare_heads(a: SymbolView, b: SymbolView) -> Ordering
+    ensures { result ≡ heads_cmp (shown a.entry) (shown b.entry) }
 {
     match (a, b) {
-        (Node::Number(m), Node::Number(n)) => m.cmp(n),
-        (Node::Identifier(m), Node::Identifier(n)) => m.cmp(n),
-        (Node::Text(m), Node::Text(n)) => m.cmp(n),
-        (Node::Function(m, xs), Node::Function(n, ys)) => xs.len().cmp(&ys.len()).then(m.cmp(n)),
+        (SymbolView::Number(m), SymbolView::Number(n)) => m.cmp(&n),
+        (SymbolView::Identifier(m), SymbolView::Identifier(n)) => m.cmp(n),
+        (SymbolView::Text(m), SymbolView::Text(n)) => m.cmp(n),
+        (SymbolView::Function(m, xs), SymbolView::Function(n, ys)) => {
+            xs.len().cmp(&ys.len()).then(m.cmp(n))
+        }
         _ => kind(a).cmp(&kind(b)),
     }
 }
 
-// Where a node's kind stands in the order.
-fn kind(node: &Node) -> u8
-    ensures { result ≡ kind_of node.now }
+// Where a layer's kind stands in the order.
+fn kind(layer: SymbolView) -> u8
+    ensures { result ≡ kind_of (shown layer.entry) }
 {
-    match node {
-        Node::Number(_) => 0,
-        Node::Identifier(_) => 1,
-        Node::Text(_) => 2,
-        Node::Function(_, _) => 3,
+    match layer {
+        SymbolView::Number(_) => 0,
+        SymbolView::Identifier(_) => 1,
+        SymbolView::Text(_) => 2,
+        SymbolView::Function(_, _) => 3,
     }
 }
 
-// The arguments of a function or a tuple, and none of other nodes.
-fn args_of(node: &Node) -> &[SymbolId]
-    ensures { result.now ≡ args_in node.now }
+// The arguments of a function or a tuple, and none of other layers.
+fn args_of(layer: SymbolView<'_>) -> &[SymbolId]
+    ensures { result.now ≡ args_in (shown layer.entry) }
 {
-    match node {
-        Node::Function(_, args) => args,
+    match layer {
+        SymbolView::Function(_, args) => args,
         _ => &[],
     }
 }

@@ -4,7 +4,7 @@ ghost use Rattle.symbols.specs.Table.{symbol_at};
 ghost use Rattle.symbols.specs.View.{Shows, StandBefore};
 
 use crate::symbol_id::SymbolId;
-use crate::table::{Node, SymbolTable};
+use crate::table::SymbolTable;
 
 /// One layer of a symbol. The arguments are ids of the same table, and a tuple's name is empty.
 #[derive(Clone, Copy, Debug)]
@@ -22,18 +22,6 @@ impl SymbolTable {
         ensures shown { Shows self.now result (symbol_at self.now id) }
         ensures before { StandBefore id result }
     {
-        match &self.nodes[id.place()] {
-            Node::Number(n) => SymbolView::Number(number_of(n)),
-            Node::Identifier(name) => SymbolView::Identifier(name),
-            Node::Text(text) => SymbolView::Text(text),
-            Node::Function(name, args) => SymbolView::Function(name, args),
-        }
+        self.layers.view(id.place())
     }
-}
-
-// The number that a node holds.
-fn number_of(n: &i32) -> i32
-    ensures { result ≡ n.now }
-{
-    *n
 }

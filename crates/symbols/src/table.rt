@@ -2,24 +2,17 @@
 ghost use Rattle.std.specs.Prelude.{◌≡◌, ◌<◌, ◌≤◌, ◌+◌, ◌^◌, [], length, Some, slice_get, OnOk, OnErr, IfOk, All};
 ghost use Rattle.symbols.specs.Symbol.{depth, Number, Identifier, Text};
 ghost use Rattle.symbols.specs.Table.{IsFront, IsOnce, applied};
-ghost use Rattle.symbols.specs.Nodes.{symbols_of, symbol_of, IsBelow, IsTable, deepest_at};
+ghost use Rattle.symbols.specs.inner.Layer.{symbols_of, symbol_of, shown, IsBelow, IsTable, deepest_at};
+ghost use Rattle.symbols.specs.inner.Layers.{AreLayers, layers_of};
 
+use crate::layers::Layers;
 use crate::limits::{MAX_DEPTH, MAX_SYMBOLS};
 use crate::memory::Memory;
 use crate::symbol_id::SymbolId;
 use crate::symbol_stop::SymbolStop;
-use indexmap::IndexSet;
+use crate::symbol_view::SymbolView;
 use std::alloc::Global;
 use std::marker::Model;
-
-// One layer of a symbol: its arguments are the ids of symbols before it.
-#[derive(Clone, Debug, PartialEq, Eq, Hash, Drop)]
-pub(crate) enum Node {
-    Number(i32),
-    Identifier(String),
-    Text(String),
-    Function(String, Vec<SymbolId>),
-}
 
 /// Symbols, each of them once. Clauses see the table as the list of its symbols, where an id is a place.
 ///
@@ -28,7 +21,7 @@ pub(crate) enum Node {
 #[derive(Debug, Drop)]
 pub struct SymbolTable {
     pub(crate) alloc: Global,
-    pub(crate) nodes: IndexSet<Node>,
+    pub(crate) layers: Layers,
     pub(crate) depths: Vec<u16>,
 }
 
@@ -42,11 +35,12 @@ impl Model for SymbolTable {
 
     ghost coded = { coded_list symbol_code };
 
-    ghost use Rattle.symbols.specs.Nodes.{symbols_of, IsTable};
+    ghost use Rattle.symbols.specs.inner.Layer.{symbols_of, IsTable};
+    ghost use Rattle.symbols.specs.inner.Layers.{layers_of, AreLayers};
 
-    ghost view = { λ table. symbols_of table.nodes.keys };
+    ghost view = { λ table. symbols_of (layers_of table.layers) };
 
-    ghost invariant = { λ table. IsTable table.nodes.keys table.depths.items };
+    ghost invariant = { λ table. AreLayers table.layers × IsTable (layers_of table.layers) table.depths.items };
 }
 
 impl SymbolTable {
@@ -56,7 +50,7 @@ impl SymbolTable {
     {
         Ok(SymbolTable {
             alloc,
-            nodes: IndexSet::new(alloc),
+            layers: Layers::new(alloc),
             depths: Vec::new(alloc),
         })
     }
@@ -66,7 +60,7 @@ impl SymbolTable {
         ensures length { result ≡ length self.now }
         ensures few { result < 2 ^ 32 }
     {
-        self.nodes.len()
+        self.layers.len()
     }
 
     /// No symbol stands twice, so ids are equal exactly where their symbols are. This call does nothing:
@@ -74,7 +68,7 @@ impl SymbolTable {
     pub fn symbols_are_distinct(&self)
         ensures { IsOnce self.now }
     {
-        let _ = &self.nodes;
+        let _ = &self.layers;
     }
 
     /// The id of a number.
@@ -84,7 +78,13 @@ impl SymbolTable {
         ensures once { IsOnce self.new }
         ensures err { OnErr result (self.new ≡ self.old) }
     {
-        place_in(&mut self.nodes, &mut self.depths, Node::Number(n), 0)
+        place_in(
+            self.alloc,
+            &mut self.layers,
+            &mut self.depths,
+            SymbolView::Number(n),
+            0,
+        )
     }
 
     /// The id of an identifier.
@@ -94,8 +94,13 @@ impl SymbolTable {
         ensures once { IsOnce self.new }
         ensures err { OnErr result (self.new ≡ self.old) }
     {
-        let name = String::from_str(self.alloc, name)?;
-        place_in(&mut self.nodes, &mut self.depths, Node::Identifier(name), 0)
+        place_in(
+            self.alloc,
+            &mut self.layers,
+            &mut self.depths,
+            SymbolView::Identifier(name),
+            0,
+        )
     }
 
     /// The id of a text.
@@ -105,8 +110,13 @@ impl SymbolTable {
         ensures once { IsOnce self.new }
         ensures err { OnErr result (self.new ≡ self.old) }
     {
-        let text = String::from_str(self.alloc, text)?;
-        place_in(&mut self.nodes, &mut self.depths, Node::Text(text), 0)
+        place_in(
+            self.alloc,
+            &mut self.layers,
+            &mut self.depths,
+            SymbolView::Text(text),
+            0,
+        )
     }
 
     /// The id of a name with arguments, or of a tuple, whose name is empty.
@@ -124,12 +134,11 @@ impl SymbolTable {
         if below >= MAX_DEPTH {
             return Err(SymbolStop::TooDeep);
         }
-        let name = String::from_str(self.alloc, name)?;
-        let args = Vec::from_slice(self.alloc, args)?;
         match place_in(
-            &mut self.nodes,
+            self.alloc,
+            &mut self.layers,
             &mut self.depths,
-            Node::Function(name, args),
+            SymbolView::Function(name, args),
             below + 1,
         ) {
             Ok(id) => Ok(id),
@@ -150,28 +159,31 @@ fn deepest_of(depths: &[u16], symbols: &[SymbolId]) -> u16
     deepest
 }
 
-// The place of a node of this depth, which it has already or takes at the end.
+// The place of a layer of this depth, which it has already or takes at the end.
 fn place_in(
-    nodes: &mut IndexSet<Node>,
+    alloc: Global,
+    layers: &mut Layers,
     depths: &mut Vec<u16>,
-    node: Node,
+    layer: SymbolView,
     level: u16,
 ) -> Result<SymbolId, Memory>
-    requires table { IsTable nodes.old.keys depths.old.items }
-    requires below { IsBelow (length nodes.old.keys) node }
-    requires level { level ≡ depth (symbol_of (symbols_of nodes.old.keys) node) }
+    requires layers { AreLayers layers.old }
+    requires table { IsTable (layers_of layers.old) depths.old.items }
+    requires below { IsBelow (length (layers_of layers.old)) (shown layer) }
+    requires level { level ≡ depth (symbol_of (symbols_of (layers_of layers.old)) (shown layer)) }
     requires fits { level ≤ 256 }
-    ensures id { IfOk result (λ id. slice_get (symbols_of nodes.new.keys) id
-        ≡ Some (symbol_of (symbols_of nodes.old.keys) node)) }
-    ensures kept { OnOk result (IsFront (symbols_of nodes.old.keys) (symbols_of nodes.new.keys)) }
-    ensures table { IsTable nodes.new.keys depths.new.items }
-    ensures err { OnErr result (nodes.new.keys ≡ nodes.old.keys) }
+    ensures id { IfOk result (λ id. slice_get (symbols_of (layers_of layers.new)) id
+        ≡ Some (symbol_of (symbols_of (layers_of layers.old)) (shown layer.entry))) }
+    ensures kept { OnOk result (IsFront (symbols_of (layers_of layers.old)) (symbols_of (layers_of layers.new))) }
+    ensures layers { AreLayers layers.new }
+    ensures table { IsTable (layers_of layers.new) depths.new.items }
+    ensures err { OnErr result (layers_of layers.new ≡ layers_of layers.old) }
 {
-    if nodes.len() >= MAX_SYMBOLS {
+    if layers.len() >= MAX_SYMBOLS {
         return Err(Memory);
     }
     depths.reserve(1)?;
-    let (place, added) = nodes.insert_full(node)?;
+    let (place, added) = layers.insert(alloc, layer)?;
     let id = SymbolId::at(place as u32);
     if !added {
         return Ok(id);

@@ -3,13 +3,15 @@ ghost use Rattle.std.specs.Prelude.{◌≡◌, ◌<◌, ◌++◌, [], ◌∷◌,
 ghost use Rattle.std.specs.Fmt.{signed_decimal};
 ghost use Rattle.symbols.specs.Table.{symbol_at};
 ghost use Rattle.symbols.specs.Text.{symbol_text, byte_text, quoted, closing};
-ghost use Rattle.symbols.specs.Nodes.{AreBelow, symbols_of, separator};
+ghost use Rattle.symbols.specs.inner.Layer.{AreBelow, symbols_of, separator};
+ghost use Rattle.symbols.specs.inner.Layers.{AreLayers, layers_of};
 
+use crate::layers::Layers;
 use crate::listed::Listed;
 use crate::memory::Memory;
 use crate::symbol_id::SymbolId;
-use crate::table::{Node, SymbolTable};
-use indexmap::IndexSet;
+use crate::symbol_view::SymbolView;
+use crate::table::SymbolTable;
 use std::alloc::Global;
 
 impl SymbolTable {
@@ -20,7 +22,7 @@ impl SymbolTable {
         ensures err { OnErr result (out.new ≡ out.old) }
     {
         let mut text = Listed::new(self.alloc);
-        write_place(self.alloc, &self.nodes, id.place(), &mut text)?;
+        write_place(self.alloc, &self.layers, id.place(), &mut text)?;
         out.append(text.items())
     }
 }
@@ -28,24 +30,25 @@ impl SymbolTable {
 // Appends the printed text of the symbol at a place; after a refusal a part of it may stand there.
 fn write_place(
     alloc: Global,
-    nodes: &IndexSet<Node>,
+    layers: &Layers,
     place: usize,
     out: &mut Listed<u8>,
 ) -> Result<(), Memory>
-    requires before { AreBelow 0 nodes.now.keys }
-    requires place { place < length nodes.now.keys }
-    ensures { OnOk result (out.new ≡ out.old ++ symbol_text (symbol_at (symbols_of nodes.now.keys) place)) }
+    requires layers { AreLayers layers.now }
+    requires before { AreBelow 0 (layers_of layers.now) }
+    requires place { place < length (layers_of layers.now) }
+    ensures { OnOk result (out.new ≡ out.old ++ symbol_text (symbol_at (symbols_of (layers_of layers.now)) place)) }
 {
-    match &nodes[place] {
-        Node::Number(n) => write_number(alloc, n, out),
-        Node::Identifier(name) => out.append(name.as_bytes()),
-        Node::Text(text) => write_quoted(text.as_bytes(), out),
-        Node::Function(name, args) => {
+    match layers.view(place) {
+        SymbolView::Number(n) => write_number(alloc, &n, out),
+        SymbolView::Identifier(name) => out.append(name.as_bytes()),
+        SymbolView::Text(text) => write_quoted(text.as_bytes(), out),
+        SymbolView::Function(name, args) => {
             out.append(name.as_bytes())?;
             out.append(b"(")?;
             for (index, arg) in args.iter().enumerate() {
                 out.append(separator_of(index))?;
-                write_place(alloc, nodes, arg.place(), out)?;
+                write_place(alloc, layers, arg.place(), out)?;
             }
             out.append(closing_of(name, args.len()))
         }

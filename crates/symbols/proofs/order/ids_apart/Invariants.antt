@@ -1,5 +1,5 @@
 use Rattle.std.proofs.Common.{◌≡◌, drop}
-use Rattle.symbols.specs.Nodes.{first_apart}
+use Rattle.symbols.specs.inner.Layer.{first_apart}
 use Rattle.symbols.proofs.order.ids_apart.Given as goal
 
 abbrev pub invariant-loop-place : goal.invariant-loop-place

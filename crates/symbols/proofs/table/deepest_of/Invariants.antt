@@ -1,5 +1,5 @@
 use Rattle.std.proofs.Common.{◌≡◌, max, drop}
-use Rattle.symbols.specs.Nodes.{deepest_at}
+use Rattle.symbols.specs.inner.Layer.{deepest_at}
 use Rattle.symbols.proofs.table.deepest_of.Given as goal
 
 abbrev pub invariant-loop-symbol : goal.invariant-loop-symbol

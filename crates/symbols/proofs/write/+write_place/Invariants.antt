@@ -1,7 +1,8 @@
 use Rattle.std.proofs.Common.{◌≡◌, ◌++◌, drop}
 use Rattle.symbols.specs.Table.{symbols_at}
 use Rattle.symbols.specs.Text.{args_text}
-use Rattle.symbols.specs.Nodes.{symbols_of}
+use Rattle.symbols.specs.inner.Layer.{symbols_of}
+use Rattle.symbols.specs.inner.Layers.{layers_of}
 use Rattle.symbols.proofs.WriteLemmas.{tail_text}
 use Rattle.symbols.proofs.write.+write_place.Given as goal
 
@@ -10,4 +11,4 @@ decreases-write_place l = l.place
 
 abbrev pub invariant-loop-index : goal.invariant-loop-index
 invariant-loop-index l =
-    l.out ++ tail_text l.index (symbols_at (symbols_of l.nodes.keys) (drop l.index l.arg-items)) ≡ l.initial.out ++ args_text (symbols_at (symbols_of l.nodes.keys) l.arg-items)
+    l.out ++ tail_text l.index (symbols_at (symbols_of (layers_of l.layers)) (drop l.index l.args)) ≡ l.initial.out ++ args_text (symbols_at (symbols_of (layers_of l.layers)) l.args)
