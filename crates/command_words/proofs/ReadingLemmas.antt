@@ -5,7 +5,7 @@ use Rattle.clap.specs.Walk.{Row}
 use Rattle.command_words.specs.Words.{Piece}
 use Rattle.command_words.specs.Settings.{solver_reading, checker_reading}
 use Rattle.command_words.specs.Matches.{IsReadAs}
-use Rattle.command_words.specs.Found.{solver_found, checker_found}
+use Rattle.command_words.specs.inner.Found.{solver_found, checker_found}
 
 pub solver_of : (found : Option (List Piece)) (rows : List Row) → IsReadAs found rows → option_and_then solver_reading found ≡ solver_found rows
 solver_of None rows read = absurd read

@@ -4,4 +4,4 @@ pub mod Words
 pub mod Settings
 pub mod Matches
 pub mod Forms
-pub mod Found
+pub mod inner

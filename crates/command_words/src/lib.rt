@@ -19,4 +19,3 @@ pub use reading::{checker_settings, solver_settings};
 pub use settings::{CheckerSettings, SolverSettings};
 pub use stop::WordsStop;
 pub use usage::{CHECKER_USAGE, SOLVER_USAGE};
-

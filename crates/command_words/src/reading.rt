@@ -4,7 +4,7 @@ ghost use Rattle.clap.specs.Walk.{first_of};
 ghost use Rattle.clap.specs.Words.{rows_of, found_of};
 ghost use Rattle.command_words.specs.Numbers.{number_within, integer_within};
 ghost use Rattle.command_words.specs.Settings.{optional, defaulted, ordered, ordered_if_named, few_files, solver_settings_of, solver_reading_of, checker_settings_of, checker_reading_of};
-ghost use Rattle.command_words.specs.Found.{ends_found, named_ends_found, files_found, solver_found, checker_found};
+ghost use Rattle.command_words.specs.inner.Found.{ends_found, named_ends_found, files_found, solver_found, checker_found};
 
 use crate::command::{file_texts, option_text, read_words};
 use crate::numbers::{end_in, number_in};

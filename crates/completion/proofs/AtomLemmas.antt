@@ -13,7 +13,7 @@ use Rattle.ground_model.proofs.MemberLemmas.{same_nat}
 use Rattle.linear_normal.specs.declared.numbered.Support.{Support}
 use Rattle.linear_normal.proofs.ListLemmas.{range_numbered}
 use Rattle.completion.specs.Inputs.{all_false, supporting, atom_nogood}
-use Rattle.completion.specs.Parts.{atom_lits, IsSupport}
+use Rattle.completion.specs.inner.Parts.{atom_lits, IsSupport}
 use Rattle.completion.proofs.RowLemmas.{row_added, get_row, rows_set}
 
 supporting_more : (supports : List Support) (s : Support) (a : ℕ) → supporting (supports ++ s ∷ []) a ≡ cond (s.atom == a) (supporting supports a ++ s.body ∷ []) (supporting supports a)

@@ -37,7 +37,7 @@ use Rattle.linear_normal.proofs.ContentLemmas.{only_demanded}
 use Rattle.linear_normal.proofs.BodyLemmas.{placed_rule}
 use Rattle.linear_normal.proofs.ListLemmas.{all_append, all_flat, all_map}
 use Rattle.completion.specs.Inputs.{bodies_nogoods, duty_nogood, rule_nogoods}
-use Rattle.completion.specs.Parts.{IsConjunction, IsDuty, IsParted, IsSupport, duty_count_of}
+use Rattle.completion.specs.inner.Parts.{IsConjunction, IsDuty, IsParted, IsSupport, duty_count_of}
 
 -- WELL FORMED LITERALS
 

@@ -25,9 +25,9 @@ use Rattle.linear_normal.specs.Truth.{numbered_in}
 use Rattle.linear_normal.proofs.BodyLemmas.{support_way}
 use Rattle.linear_normal.proofs.ListLemmas.{all_map, range_member, member_range}
 use Rattle.linear_normal.proofs.TruthLemmas.{conjunction_at}
-use Rattle.completion.specs.Parts.{IsSupport}
+use Rattle.completion.specs.inner.Parts.{IsSupport}
 use Rattle.completion.specs.Tight.{IsBelow, AreBelow, IsTight}
-use Rattle.completion.specs.Waits.{positive_atom, positive_atoms, waits_by, waits_of, waiting_rule, waiting_rules, IsSupportBelow}
+use Rattle.completion.specs.inner.Waits.{positive_atom, positive_atoms, waits_by, waits_of, waiting_rule, waiting_rules, IsSupportBelow}
 use Rattle.completion.proofs.RuleLemmas.{bodies_have, known_supports}
 
 -- RANKS AND DERIVATIONS

@@ -8,7 +8,7 @@ use Rattle.ground_model.proofs.MemberLemmas.{same_nat}
 use Rattle.linear_normal.specs.declared.numbered.Conjunction.{Conjunction}
 use Rattle.linear_normal.specs.declared.numbered.Support.{Support}
 use Rattle.linear_normal.specs.Truth.{numbered_in}
-use Rattle.completion.specs.Waits.{positive_atom, positive_atoms, waits_by, waits_of, waiting_rule, waiting_rules, rules_with}
+use Rattle.completion.specs.inner.Waits.{positive_atom, positive_atoms, waits_by, waits_of, waiting_rule, waiting_rules, rules_with}
 use Rattle.completion.proofs.RowLemmas.{get_row, rows_set}
 
 flat_end : {X Y : Type 0} (f : X → List Y) (xs : List X) (x : X) → flat_map f (xs ++ x ∷ []) ≡ flat_map f xs ++ f x

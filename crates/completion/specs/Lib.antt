@@ -2,5 +2,4 @@ pub mod Inputs
 pub mod Loops
 pub mod Tight
 pub mod Laws
-pub mod Parts
-pub mod Waits
+pub mod inner

@@ -6,7 +6,7 @@ ghost use Rattle.literals.specs.Lits.{IsLit};
 ghost use Rattle.literals.specs.Nogoods.{canonical};
 ghost use Rattle.ground_model.specs.Answers.{IsNumbered};
 ghost use Rattle.completion.specs.Inputs.{atom_nogood};
-ghost use Rattle.completion.specs.Parts.{atom_lits, IsSupport};
+ghost use Rattle.completion.specs.inner.Parts.{atom_lits, IsSupport};
 
 use linear_normal::Support;
 use literals::{Lit, Nogood};

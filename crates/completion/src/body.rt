@@ -5,7 +5,7 @@ ghost use Rattle.literals.specs.declared.lit.Lit.TheVariants.{Body};
 ghost use Rattle.literals.specs.Lits.{IsLit};
 ghost use Rattle.literals.specs.Nogoods.{canonical};
 ghost use Rattle.completion.specs.Inputs.{body_nogoods, bodies_nogoods, duty_nogood as duty_lits};
-ghost use Rattle.completion.specs.Parts.{IsConjunction, IsDuty};
+ghost use Rattle.completion.specs.inner.Parts.{IsConjunction, IsDuty};
 
 use linear_normal::{Conjunction, Duty};
 use literals::{Lit, Nogood, complement};

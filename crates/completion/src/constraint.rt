@@ -5,7 +5,7 @@ ghost use Rattle.linear_normal.specs.declared.constraint.Constraint.TheVariants 
 ghost use Rattle.literals.specs.Lits.{IsLit};
 ghost use Rattle.literals.specs.Nogoods.{canonical};
 ghost use Rattle.completion.specs.Inputs.{all_false, constraint_nogoods, constraints_nogoods};
-ghost use Rattle.completion.specs.Parts.{IsParted};
+ghost use Rattle.completion.specs.inner.Parts.{IsParted};
 
 use linear_normal::Constraint;
 use literals::{Lit, Nogood};

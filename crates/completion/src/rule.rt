@@ -5,7 +5,7 @@ ghost use Rattle.linear_normal.specs.Bodies.{is_bounded as bounded_test, bodies_
 ghost use Rattle.linear_normal.specs.Demands.{bounds_of};
 ghost use Rattle.linear_normal.specs.Numbering.{contents_in, numbering};
 ghost use Rattle.completion.specs.Inputs.{rule_nogoods};
-ghost use Rattle.completion.specs.Parts.{duty_count_of};
+ghost use Rattle.completion.specs.inner.Parts.{duty_count_of};
 
 use crate::body::{add_bodies, add_duties};
 use ground_model::{GroundChoice, GroundHead, GroundProgram, GroundRule};

@@ -8,7 +8,7 @@ ghost use Rattle.std.specs.Prelude.{◌≡◌, ◌↔◌, ◌++◌, [], ◌+◌,
 ghost use Rattle.std.specs.List.{All, flat_map, range_with_len};
 ghost use Rattle.linear_normal.specs.Numbering.{numbering};
 ghost use Rattle.completion.specs.Tight.{IsTight};
-ghost use Rattle.completion.specs.Waits.{IsSupportBelow, positive_atom, rules_with, waits_of};
+ghost use Rattle.completion.specs.inner.Waits.{IsSupportBelow, positive_atom, rules_with, waits_of};
 
 use definite_rules::{DefiniteRules, least_model};
 use ground_model::GroundProgram;

@@ -15,7 +15,7 @@ use Rattle.conflict_analysis.specs.declared.marks.Mark.{Mark}
 use Rattle.conflict_analysis.specs.declared.marks.Mark.TheVariants.{Clear, ByEnds, ByEntry}
 use Rattle.conflict_analysis.specs.Chains.{IsUsable, IsHole}
 use Rattle.conflict_analysis.specs.Marked.{Board, place_of, mark_of, mark_at, marked_lit, IsMark, IsClear, Takes}
-use Rattle.conflict_analysis.specs.Runs.{Setting, Drain, Drains, SortsOut, LitOfMark, hole_link}
+use Rattle.conflict_analysis.specs.inner.Runs.{Setting, Drain, Drains, SortsOut, LitOfMark, hole_link}
 use Rattle.conflict_analysis.proofs.BoardLaws.{set_there, set_else}
 use Rattle.conflict_analysis.proofs.Standing.{resolvent_at, canonical_of}
 use Rattle.conflict_analysis.proofs.TrailFacts.{by_ends, names_complement}

@@ -19,7 +19,7 @@ use Rattle.conflict_analysis.specs.declared.marks.Mark.TheVariants.{Clear, ByEnd
 use Rattle.conflict_analysis.specs.Levels.{level_at, level_on, level_since, IsByEntry, highest, IsAsserting}
 use Rattle.conflict_analysis.specs.Chains.{replayed, nogood_of, IsUsable, PivotsDiffer}
 use Rattle.conflict_analysis.specs.Marked.{Board, Fits, place_of, mark_of, mark_at, marked_lit, high_count, high_one, is_high, IsMark, IsClear, IsBefore, IsPending, Pends}
-use Rattle.conflict_analysis.specs.Runs.{mark_since, Run, Runs, IsHit, IsSettled, IsFromPlace, Setting, Drain, Drains, highest_but, boards_with, LitOfMark}
+use Rattle.conflict_analysis.specs.inner.Runs.{mark_since, Run, Runs, IsHit, IsSettled, IsFromPlace, Setting, Drain, Drains, highest_but, boards_with, LitOfMark}
 use Rattle.conflict_analysis.proofs.Standing.{standing_is, has_standing}
 use Rattle.literals.proofs.Puts.{joined-nil, all_joined}
 use Rattle.std.proofs.lemmas.List.{length-set}

@@ -17,7 +17,7 @@ use Rattle.nogood_store.proofs.Members.{holds_of}
 use Rattle.conflict_analysis.specs.declared.marks.Mark.{Mark}
 use Rattle.conflict_analysis.specs.declared.marks.Mark.TheVariants.{Clear, ByEnds, ByEntry}
 use Rattle.conflict_analysis.specs.Marked.{Board, Fits, place_of, mark_of, mark_at, marked_with, unmarked, marked_lit, IsMark, IsBefore, IsPending, Pends, standing}
-use Rattle.conflict_analysis.specs.Runs.{mark_since, covers_lit, board_with, boards_with, IsHit, IsLast}
+use Rattle.conflict_analysis.specs.inner.Runs.{mark_since, covers_lit, board_with, boards_with, IsHit, IsLast}
 use Rattle.conflict_analysis.proofs.BoardLaws.{set_there, set_else}
 use Rattle.conflict_analysis.proofs.PlaceLaws.{places_same, has_place}
 use Rattle.conflict_analysis.proofs.Standing.{stronger_on, standing-put, standing-without, has_standing, standing_is, standing_place, implies_place}

@@ -25,7 +25,7 @@ use Rattle.conflict_analysis.specs.Justified.{trail_of, IsReasonFor, Stands, IsJ
 use Rattle.conflict_analysis.specs.Levels.{level_at, level_on, level_since}
 use Rattle.conflict_analysis.specs.Chains.{nogood_of, linked, replayed, IsUsable, PivotsDiffer}
 use Rattle.conflict_analysis.specs.Marked.{Board, HasPlace, place_of, mark_of, mark_at, unmarked, marked_lit, is_high, high_one, high_count, IsMark, IsBefore, IsPending, Pends, standing}
-use Rattle.conflict_analysis.specs.Runs.{mark_since, covers_lit, board_with, boards_with, nogood_by, IsFrom, IsHit, IsFromPlace, Run, Runs, IsLast, IsReady}
+use Rattle.conflict_analysis.specs.inner.Runs.{mark_since, covers_lit, board_with, boards_with, nogood_by, IsFrom, IsHit, IsFromPlace, Run, Runs, IsLast, IsReady}
 use Rattle.conflict_analysis.proofs.PlaceLaws.{has_place, is_placed}
 use Rattle.conflict_analysis.proofs.Standing.{standing_is, resolvent_at}
 use Rattle.conflict_analysis.proofs.TrailFacts.{before_since, before_true, since_entry, since_later, levels_rise, stands_at, lits_take, level_take}

@@ -12,7 +12,7 @@ use Rattle.conflict_analysis.specs.declared.marks.Mark.{Mark}
 use Rattle.conflict_analysis.specs.declared.marks.Mark.TheVariants.{Clear}
 use Rattle.conflict_analysis.specs.Levels.{level_on, highest}
 use Rattle.conflict_analysis.specs.Marked.{Board, Fits, place_of, mark_of, mark_at, marked_with, unmarked, is_high, high_one, high_count, IsMark}
-use Rattle.conflict_analysis.specs.Runs.{mark_since, covers_lit, board_with, boards_with, all_but, is_out_lit, highest_but, IsHit}
+use Rattle.conflict_analysis.specs.inner.Runs.{mark_since, covers_lit, board_with, boards_with, all_but, is_out_lit, highest_but, IsHit}
 use Rattle.conflict_analysis.proofs.BoardLaws.{set_there, set_else}
 use Rattle.conflict_analysis.proofs.PlaceLaws.{has_place}
 use Rattle.conflict_analysis.proofs.CountLaws.{count-set, count_one, count_most}

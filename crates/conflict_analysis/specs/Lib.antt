@@ -2,4 +2,4 @@ pub mod Justified
 pub mod Levels
 pub mod Chains
 pub mod Marked
-pub mod Runs
+pub mod inner

@@ -8,7 +8,7 @@ ghost use Rattle.conflict_analysis.specs.Justified.{IsJustified};
 ghost use Rattle.conflict_analysis.specs.Levels as level;
 ghost use Rattle.conflict_analysis.specs.Levels.{IsByEntry, IsAsserting};
 ghost use Rattle.conflict_analysis.specs.Chains.{nogood_of, replayed, IsUsable, IsConflicting, PivotsDiffer};
-ghost use Rattle.conflict_analysis.specs.Runs.{Runs, IsSettled};
+ghost use Rattle.conflict_analysis.specs.inner.Runs.{Runs, IsSettled};
 ghost use Rattle.conflict_analysis.specs.declared.learned.Start.{Start as Begin};
 
 use crate::drain::drain;

@@ -2,7 +2,7 @@
 ghost use Rattle.std.specs.Prelude.{◌≡◌, ℕ, [], IfOk, OnOk};
 ghost use Rattle.literals.specs.Lits.{IsLit};
 ghost use Rattle.conflict_analysis.specs.Marked.{IsClear, mark_at};
-ghost use Rattle.conflict_analysis.specs.Runs.{Setting, Drains, SortsOut, LitOfMark, hole_link};
+ghost use Rattle.conflict_analysis.specs.inner.Runs.{Setting, Drains, SortsOut, LitOfMark, hole_link};
 
 use crate::learned::{Link, Start};
 use crate::marks::{Mark, Marks};

@@ -3,7 +3,7 @@ ghost use Rattle.std.specs.Prelude.{◌≡◌};
 ghost use Rattle.std.specs.List.{AllByRecursion};
 ghost use Rattle.trail.specs.Assignment.{Names};
 ghost use Rattle.conflict_analysis.specs.Levels as level;
-ghost use Rattle.conflict_analysis.specs.Runs.{highest_but};
+ghost use Rattle.conflict_analysis.specs.inner.Runs.{highest_but};
 
 use literals::Lit;
 use trail::Trail;

@@ -3,7 +3,7 @@ ghost use Rattle.std.specs.Prelude.{◌≡◌, ◌+◌, ◌^◌, ◌<◌, ◌≤
 ghost use Rattle.std.specs.List.{AllByRecursion};
 ghost use Rattle.trail.specs.Assignment.{Names, since_on};
 ghost use Rattle.conflict_analysis.specs.Marked.{Fits, IsMark, is_high as of_level, high_count, mark_at};
-ghost use Rattle.conflict_analysis.specs.Runs.{mark_since, covers_lit, board_with, boards_with, all_but, is_out_lit};
+ghost use Rattle.conflict_analysis.specs.inner.Runs.{mark_since, covers_lit, board_with, boards_with, all_but, is_out_lit};
 
 use crate::marks::{Mark, Marks};
 use literals::{Lit, implies};

@@ -3,7 +3,7 @@ ghost use Rattle.std.specs.Prelude.{◌≡◌, List, Some, IfOk};
 ghost use Rattle.literals.specs.declared.lit.Lit.{Lit};
 ghost use Rattle.literals.specs.Nogoods.{Rises};
 ghost use Rattle.conflict_analysis.specs.Chains.{nogood_of};
-ghost use Rattle.conflict_analysis.specs.Runs.{nogood_by, IsFrom};
+ghost use Rattle.conflict_analysis.specs.inner.Runs.{nogood_by, IsFrom};
 
 use crate::learned::Start;
 use literals::{Lit, Nogood, Reason, Step};

@@ -4,7 +4,7 @@ ghost use Rattle.std.specs.List.{AllByRecursion};
 ghost use Rattle.trail.specs.Assignment.{IsAssignment};
 ghost use Rattle.conflict_analysis.specs.Justified.{IsJustified};
 ghost use Rattle.conflict_analysis.specs.declared.learned.Start.{Start};
-ghost use Rattle.conflict_analysis.specs.Runs.{Runs, IsReady, IsSettled};
+ghost use Rattle.conflict_analysis.specs.inner.Runs.{Runs, IsReady, IsSettled};
 
 use crate::learned::Link;
 use crate::marks::{Mark, Marks};

@@ -3,7 +3,7 @@ ghost use Rattle.std.specs.Prelude.{◌≡◌, ◌≤◌, ◌<◌, ℕ, length, 
 ghost use Rattle.trail.specs.Assignment.{IsAssignment};
 ghost use Rattle.literals.specs.declared.lit.Lit.{Lit};
 ghost use Rattle.conflict_analysis.specs.Marked.{Fits};
-ghost use Rattle.conflict_analysis.specs.Runs.{IsHit};
+ghost use Rattle.conflict_analysis.specs.inner.Runs.{IsHit};
 
 use crate::marks::{Mark, Marks};
 use literals::Lit;

@@ -11,7 +11,7 @@ use Rattle.syntax_tree.specs.declared.term.Term.TheVariants as t
 use Rattle.syntax_tree.specs.Tree.{is_name}
 use Rattle.first_form.specs.declared.stop.FormStop.{FormStop}
 use Rattle.first_form.specs.declared.stop.FormStop.TheVariants.{OtherForm, Memory}
-use Rattle.first_form.specs.Answered.{Fails, Gives}
+use Rattle.first_form.specs.inner.Answered.{Fails, Gives}
 use Rattle.first_form.specs.Form.{all_there, named, symbol_of, within, symbol_within}
 use Rattle.first_form.proofs.Tables.{arguments_at, symbol_of_id}
 use Rattle.first_form.proofs.There.{first_there}

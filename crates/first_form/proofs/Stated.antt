@@ -3,7 +3,7 @@ use Rattle.std.proofs.Common.{◌≡◌, ◌≤◌, List, length, map, Some, Res
 use Rattle.syntax_tree.specs.declared.statement.Statement.{Statement}
 use Rattle.first_form.specs.declared.stop.FormStop.{FormStop}
 use Rattle.first_form.specs.declared.stop.FormStop.TheVariants.{OtherForm, Memory}
-use Rattle.first_form.specs.Answered.{Gives}
+use Rattle.first_form.specs.inner.Answered.{Gives}
 use Rattle.first_form.specs.Form.{SymbolRule, all_there, rule_of, States}
 use Rattle.first_form.proofs.There.{all_some, some_all}
 

@@ -1,7 +1,7 @@
 // Statements of the first form.
 ghost use Rattle.std.specs.Prelude.{◌≡◌, ◌<◌, List, [], ◌∷◌, length, map, IfOk};
 ghost use Rattle.symbols.specs.Table.{symbol_at, IsFront, IsOnce};
-ghost use Rattle.first_form.specs.Answered.{Gives};
+ghost use Rattle.first_form.specs.inner.Answered.{Gives};
 ghost use Rattle.first_form.specs.Form as form;
 ghost use Rattle.first_form.specs.Form.{SymbolRule, States, rule_in, rules_in, AreKnown, HaveKnown};
 ghost use Rattle.syntax_tree.specs.declared.statement.Statement.TheVariants.{Rule as RuleStatement};

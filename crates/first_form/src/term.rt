@@ -4,7 +4,7 @@ ghost use Rattle.symbols.specs.Symbol.{arguments as spec_arguments, deepest};
 ghost use Rattle.symbols.specs.Table.{symbol_at, IsFront, IsOnce};
 ghost use Rattle.syntax_tree.specs.Tree.{is_name};
 ghost use Rattle.syntax_tree.specs.declared.term.Term.TheVariants.{Function};
-ghost use Rattle.first_form.specs.Answered.{Gives};
+ghost use Rattle.first_form.specs.inner.Answered.{Gives};
 ghost use Rattle.first_form.specs.Form as form;
 ghost use Rattle.first_form.specs.Form.{AreKnown};
 

@@ -2,7 +2,7 @@
 use Rattle.std.proofs.Common.{◌≡◌, ℕ, zero, suc, ◌≤◌, Bool, true, false, ◌⊎◌, inl, inr, List, [], ◌∷◌, ◌++◌, length, Ok, Err, refl, sym, ◌∙◌, ap, subst, arith}
 use Rattle.grammar.specs.Word.{Word, Ends}
 use Rattle.grammar.specs.Reading.{Fault, Reader, and_then}
-use Rattle.grammar.specs.TextReading.{items_with, all_with}
+use Rattle.grammar.specs.inner.TextReading.{items_with, all_with}
 use Rattle.grammar.proofs.Lawful.{Refuses, Stuck, Lawful, ok_pair, ok_parts, bind_ok, bind_err, bind_by}
 use Rattle.grammar.proofs.Deeper.{Deeper, Shrinks, then_shrinks, then_deeper}
 use Rattle.grammar.proofs.Pairs.{Weak}

@@ -2,10 +2,10 @@
 use Rattle.std.proofs.Common.{◌≡◌, ℕ, suc, ◌≤◌, true, false, List, [], ◌∷◌, length, Err, refl, sym, ◌∙◌, ap}
 use Rattle.grammar.specs.Word.{Word}
 use Rattle.grammar.specs.Statement.{words_of_statement, text_words}
-use Rattle.grammar.specs.Text.{TextAt, words_of_text}
+use Rattle.grammar.specs.inner.Text.{TextAt, words_of_text}
 use Rattle.grammar.specs.Reading.{Fault, Expected, TooDeep}
 use Rattle.grammar.specs.StatementReading.{statement_at}
-use Rattle.grammar.specs.TextReading.{text_at}
+use Rattle.grammar.specs.inner.TextReading.{text_at}
 use Rattle.grammar.specs.Faults.{IsExpected, IsTooDeep}
 use Rattle.grammar.proofs.Deeper.{Deeper, lawful_shrinks}
 use Rattle.grammar.proofs.First.{Found, first_expected, first_deep}

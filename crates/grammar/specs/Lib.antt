@@ -17,10 +17,9 @@ pub mod StatementSight
 pub mod Rules
 pub mod Check
 pub mod StatementReading
-pub mod Text
-pub mod TextReading
 pub mod WordText
 pub mod Tidied
 pub mod AllWords
 pub mod TidiedStatement
 pub mod Standing
+pub mod inner

@@ -7,7 +7,7 @@ use Rattle.symbols.specs.declared.ends.Ends.{Ends}
 use Rattle.definite_rules.specs.Least as definite
 use Rattle.ground_model.specs.declared.answer.Answer.{Answer}
 use Rattle.ground_model.specs.declared.program.GroundProgram.{GroundProgram}
-use Rattle.ground_model.specs.Agreement.{are_within, is_shaped, Agree, IsStableCandidate}
+use Rattle.ground_model.specs.inner.Agreement.{are_within, is_shaped, Agree, IsStableCandidate}
 use Rattle.ground_model.specs.Answers.{IsNumbered, ascend_from, has_atom, value_at, IsWithin, IsValuation, IsAnswerOf}
 use Rattle.ground_model.specs.Duties.{rule_holds, IsStableByTests}
 use Rattle.ground_model.specs.Reduct.{reduct}

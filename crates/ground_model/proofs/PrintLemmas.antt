@@ -6,7 +6,7 @@ use Rattle.symbols.specs.Symbol.{Symbol}
 use Rattle.ground_model.specs.declared.program.GroundProgram.{GroundProgram}
 use Rattle.ground_model.specs.declared.answer.Answer.{Answer}
 use Rattle.ground_model.specs.Answers.{IsNumbered}
-use Rattle.ground_model.specs.Ordered.{is_smaller, number_placed, numbers_placed, spaced}
+use Rattle.ground_model.specs.inner.Ordered.{is_smaller, number_placed, numbers_placed, spaced}
 use Rattle.ground_model.specs.Printed.{Entry, placed, in_order, name_of, is_shown, atom_entry, variable_entry, entries, answer_line}
 use Rattle.ground_model.specs.World.{flagged_from}
 

@@ -16,8 +16,7 @@ pub mod World
 pub mod Ways
 pub mod Reduct
 pub mod Sizes
-pub mod Ordered
 pub mod Duties
 pub mod Spans
-pub mod Agreement
 pub mod Laws
+pub mod inner

@@ -2,7 +2,7 @@
 ghost use Rattle.std.specs.Prelude.{◌≡◌, ◌↔◌, ◌<◌, ◌+◌, ◌-◌, ◌≤◌, ◌^◌, ℕ, false, nat_le, int_le, ◌&&◌, length, slice_index_or, IsTrue, IfOk, vec_len};
 ghost use Rattle.std.specs.List.{AllByRecursion, list_all};
 ghost use Rattle.ground_model.specs.Answers.{ascend_from, has_atom, IsValuation, IsAnswerOf};
-ghost use Rattle.ground_model.specs.Agreement.{are_within, is_shaped as is_shaped_test, IsStableCandidate, Agree};
+ghost use Rattle.ground_model.specs.inner.Agreement.{are_within, is_shaped as is_shaped_test, IsStableCandidate, Agree};
 ghost use Rattle.ground_model.specs.Duties.{IsStableByTests};
 ghost use Rattle.ground_model.specs.World.{world_by};
 

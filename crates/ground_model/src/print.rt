@@ -4,7 +4,7 @@ ghost use Rattle.std.specs.Fmt.{signed_decimal};
 ghost use Rattle.std.specs.List.{AllByRecursion};
 ghost use Rattle.symbols.specs.Text.{symbol_text};
 ghost use Rattle.ground_model.specs.Answers.{IsNumbered, AreAtomsOf, IsValuation};
-ghost use Rattle.ground_model.specs.Ordered.{spaced};
+ghost use Rattle.ground_model.specs.inner.Ordered.{spaced};
 ghost use Rattle.ground_model.specs.Printed.{name_of, is_shown, atom_entry, variable_entry, entries, cost_line, block};
 ghost use Rattle.ground_model.specs.Sound.{are_known};
 

@@ -10,7 +10,7 @@ use Rattle.ground_model.specs.Sizes.{IsSoundPair, IsSizedLinear, AreSizedPlaces}
 use Rattle.ground_model.proofs.Bools.{and_elim, and_intro, or_left, bool_cases, same_test}
 use Rattle.ground_model.proofs.MemberLemmas.{same_nat, member_any, all_member, all_from_members, property_member, property_from_members, property_map}
 use Rattle.ground_model.proofs.SizeLemmas.{sound_pairs}
-use Rattle.ground_parts.specs.Totals.{names, set_flags, flag_of, sum_at, HavePlaces, AllHavePlaces, AreWithin, AreUnset, AreZero, differ_little, pairs_differ_little, places_differ_little, HasSmallConstant, HasSmallNumbers}
+use Rattle.ground_parts.specs.inner.Totals.{names, set_flags, flag_of, sum_at, HavePlaces, AllHavePlaces, AreWithin, AreUnset, AreZero, differ_little, pairs_differ_little, places_differ_little, HasSmallConstant, HasSmallNumbers}
 
 -- COUNTS
 

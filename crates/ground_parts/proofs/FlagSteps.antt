@@ -2,7 +2,7 @@
 use Rattle.std.proofs.Common.{◌≡◌, ◌<◌, ◌≤◌, ◌+◌, ℕ, zero, suc, Bool, true, false, not, ◌&&◌, ◌||◌, List, [], ◌∷◌, drop, length, slice_set, slice_index_or, refl, sym, ◌∙◌, ap, subst, true≢false, arith}
 use Rattle.ground_model.specs.declared.linear.Place.{Place}
 use Rattle.ground_model.specs.Sound.{occurs, first_places}
-use Rattle.ground_parts.specs.Totals.{names, set_flags, flag_of}
+use Rattle.ground_parts.specs.inner.Totals.{names, set_flags, flag_of}
 
 -- COUNTS
 

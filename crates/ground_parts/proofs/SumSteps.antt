@@ -7,7 +7,7 @@ use Rattle.ground_model.specs.declared.linear.Place.{Place}
 use Rattle.ground_model.specs.Sound.{coefficient, total_coefficient, first_places, most}
 use Rattle.ground_model.specs.Sizes.{IsSizedLinear}
 use Rattle.ground_model.proofs.Products.{drop_next}
-use Rattle.ground_parts.specs.Totals.{sum_at, HavePlaces, AreWithin}
+use Rattle.ground_parts.specs.inner.Totals.{sum_at, HavePlaces, AreWithin}
 
 other_number : (v x : ℕ) → (v ≡ x → ⊥) → (v == x) ≡ false
 other_number v x e = grind (arith, nat_tests)

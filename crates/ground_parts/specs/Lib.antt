@@ -1,2 +1,2 @@
 pub mod Parts
-pub mod Totals
+pub mod inner

@@ -3,7 +3,7 @@ ghost use Rattle.std.specs.Prelude.{◌≡◌, ◌-◌, ◌-ℤ◌, ◌<◌, ◌
 ghost use Rattle.std.specs.List.{AllByRecursion};
 ghost use Rattle.ground_model.specs.Sizes.{AreSizedPlaces};
 ghost use Rattle.ground_model.specs.Sound.{is_sound_objective as objective_test, is_small as small_test, is_small_difference as difference_test, total_constant as constant_of, first_places, most};
-ghost use Rattle.ground_parts.specs.Totals.{AreWithin, AreZero, IsClear, AllHavePlaces, HasSmallConstant, places_differ_little as places_test};
+ghost use Rattle.ground_parts.specs.inner.Totals.{AreWithin, AreZero, IsClear, AllHavePlaces, HasSmallConstant, places_differ_little as places_test};
 
 use crate::numbers::is_small;
 use crate::places::are_sound_places;

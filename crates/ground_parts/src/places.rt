@@ -2,7 +2,7 @@
 ghost use Rattle.std.specs.Prelude.{◌≡◌, ◌+◌, ◌-◌, ◌<◌, ℕ, false, true, ◌∷◌, length, IfOk};
 ghost use Rattle.std.specs.List.{list_all};
 ghost use Rattle.ground_model.specs.Sound.{is_sound_place as place_test, are_sound_places as places_test, has_few_variables as few_test, first_places};
-ghost use Rattle.ground_parts.specs.Totals.{HavePlaces, AllHavePlaces, AreUnset};
+ghost use Rattle.ground_parts.specs.inner.Totals.{HavePlaces, AllHavePlaces, AreUnset};
 
 use crate::different::are_different;
 use crate::linear::is_sound_linear;

@@ -3,7 +3,7 @@ ghost use Rattle.std.specs.Prelude.{◌≡◌, ◌+◌, ◌-◌, ◌-ℤ◌, ◌
 ghost use Rattle.std.specs.List.{AllByRecursion};
 ghost use Rattle.ground_model.specs.Sizes.{IsSizedLinear, AreSizedPlaces};
 ghost use Rattle.ground_model.specs.Sound.{is_small as small_test, is_sound_relation as relation_test, are_sound_places as places_sound, is_sound_linear as linear_sound, has_few_variables as few_test, is_small_difference as difference_test, total_constant as constant_of, first_places, most};
-ghost use Rattle.ground_parts.specs.Totals.{AreWithin, AreUnset, AreZero, IsClear, HavePlaces, AllHavePlaces, HasSmallConstant, pairs_differ_little, places_differ_little as places_test};
+ghost use Rattle.ground_parts.specs.inner.Totals.{AreWithin, AreUnset, AreZero, IsClear, HavePlaces, AllHavePlaces, HasSmallConstant, pairs_differ_little, places_differ_little as places_test};
 
 use crate::linear::is_sound_linear;
 use crate::numbers::is_small;

@@ -2,7 +2,7 @@
 ghost use Rattle.std.specs.Prelude.{◌≡◌, true, IfOk};
 ghost use Rattle.std.specs.List.{list_all};
 ghost use Rattle.ground_model.specs.Sound.{is_sound_literal as literal_test, is_sound_condition as condition_test, is_sound_item as item_test, is_sound_theory as theory_test, is_sound_head as head_test, is_sound_rule as rule_test, are_sound_rules as rules_test};
-ghost use Rattle.ground_parts.specs.Totals.{IsClear};
+ghost use Rattle.ground_parts.specs.inner.Totals.{IsClear};
 
 use crate::numbers::is_number;
 use crate::places::MOST;

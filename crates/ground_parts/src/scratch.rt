@@ -1,6 +1,6 @@
 // Arrays by variable.
 ghost use Rattle.std.specs.Prelude.{◌+◌, ◌<◌, ◌^◌, IfOk};
-ghost use Rattle.ground_parts.specs.Totals.{IsClear};
+ghost use Rattle.ground_parts.specs.inner.Totals.{IsClear};
 
 use std::alloc::Global;
 use symbols::Memory;

@@ -2,7 +2,7 @@
 ghost use Rattle.std.specs.Prelude.{◌≡◌, ◌+◌, ◌+ℤ◌, ◌<◌, ◌≤◌, ◌^◌, true, length, unsigned_abs, IfOk};
 ghost use Rattle.std.specs.List.{AllByRecursion, list_all};
 ghost use Rattle.ground_model.specs.Sound.{least_product as least_product_of, greatest_product as greatest_product_of, least_sum, greatest_sum, is_small_over as over_test, are_sound_values as values_test, first_places};
-ghost use Rattle.ground_parts.specs.Totals.{HasSmallNumbers, AreUnset};
+ghost use Rattle.ground_parts.specs.inner.Totals.{HasSmallNumbers, AreUnset};
 
 use crate::numbers::is_small;
 use crate::places::are_sound_places;

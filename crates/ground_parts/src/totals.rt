@@ -2,7 +2,7 @@
 ghost use Rattle.std.specs.Prelude.{◌≡◌, ◌+◌, ◌+ℤ◌, ◌-◌, ◌<◌, ◌≤◌, ◌^◌, ◌&&◌, ◌||◌, ◌==◌, not, ℕ, true, pos, cond, length, slice_set};
 ghost use Rattle.ground_model.specs.Sizes.{IsSizedLinear, AreSizedPlaces};
 ghost use Rattle.ground_model.specs.Sound.{coefficient as coefficient_of, total_coefficient, first_places, most, occurs};
-ghost use Rattle.ground_parts.specs.Totals.{names, set_flags, flag_of, sum_at, HavePlaces, AllHavePlaces, AreWithin, AreZero, differ_little as differ_test, pairs_differ_little as pairs_test, places_differ_little as places_test};
+ghost use Rattle.ground_parts.specs.inner.Totals.{names, set_flags, flag_of, sum_at, HavePlaces, AllHavePlaces, AreWithin, AreZero, differ_little as differ_test, pairs_differ_little as pairs_test, places_differ_little as places_test};
 
 use crate::numbers::is_small;
 use ground_model::{Linear, Place};

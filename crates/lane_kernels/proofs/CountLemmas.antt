@@ -1,7 +1,7 @@
 -- The count of intervals, from one place on.
 use Rattle.std.proofs.Common.{◌≡◌, ◌+◌, ◌≤◌, ◌<◌, ◌%◌, ◌∙◌, ℕ, ℤ, pos, zero, suc, refl, sym, subst, arith, List, [], ◌∷◌, length, drop, get_or}
 use Rattle.lane_kernels.specs.Columns.{within_count, count_of_one, is_within}
-use Rattle.lane_kernels.specs.Hits.{AreHits, hits_of_two}
+use Rattle.lane_kernels.specs.inner.Hits.{AreHits, hits_of_two}
 use Rattle.lane_kernels.proofs.LaneLemmas.{hit-most}
 
 -- what place i adds

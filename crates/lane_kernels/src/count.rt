@@ -1,6 +1,6 @@
 //! How many intervals lie within two ends.
 ghost use Rattle.std.specs.Prelude.{◌≡◌, ◌+◌, ◌-◌, ◌≤◌, ◌+ℤ◌, ◌<ℤ◌, pos, length, drop};
-ghost use Rattle.lane_kernels.specs.Hits.{hits_of_two, AreHits};
+ghost use Rattle.lane_kernels.specs.inner.Hits.{hits_of_two, AreHits};
 ghost use Rattle.lane_kernels.specs.Columns.{within_count, count_of_one};
 
 use std::simd::prelude::*;

@@ -12,4 +12,3 @@ mod rows;
 pub use count::count_within;
 pub use load::load_within;
 pub use rows::{and_into, or_into};
-

@@ -11,7 +11,7 @@ use Rattle.lexer.specs.declared.lexeme.Lexeme.TheVariants.{Gap}
 use Rattle.lexer.specs.Bytes.{is_line_feed}
 use Rattle.lexer.specs.Parts.{comment, line_comment, begins_star, begins_close, close_from}
 use Rattle.lexer.specs.Faults.{HasFault}
-use Rattle.lexer.specs.Lexeme.{IsLexeme, begins_comment}
+use Rattle.lexer.specs.inner.Lexeme.{IsLexeme, begins_comment}
 use Rattle.lexer.proofs.LexemeLemmas.{gap_lexeme}
 
 -- the inside that was found, and what stands behind its end

@@ -10,7 +10,7 @@ use Rattle.lexer.specs.declared.lexeme.Lexeme.TheVariants.{Gap, Single}
 use Rattle.lexer.specs.Bytes.{is_blank}
 use Rattle.lexer.specs.Forms.{has_form, is_sound}
 use Rattle.lexer.specs.Parts.{Part, blank, token, part_bytes, part_tokens, IsLongest, BeginsThere, Stands}
-use Rattle.lexer.specs.Lexeme.{IsLexeme}
+use Rattle.lexer.specs.inner.Lexeme.{IsLexeme}
 use Rattle.lexer.proofs.ByteLemmas.{stops, run_stops}
 use Rattle.lexer.proofs.FormLemmas.{no_form_nil}
 

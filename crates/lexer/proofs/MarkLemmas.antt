@@ -11,7 +11,7 @@ use Rattle.lexer.specs.Bytes.{is_blank, is_digit, is_lower, is_upper, is_undersc
 use Rattle.lexer.specs.Forms.{has_form, is_name, is_digits, is_string, closes, is_mark, is_short_mark}
 use Rattle.lexer.specs.Parts.{IsLongest}
 use Rattle.lexer.specs.Faults.{BeginsNoToken, HasFault}
-use Rattle.lexer.specs.Lexeme.{IsLexeme, begins_long_mark}
+use Rattle.lexer.specs.inner.Lexeme.{IsLexeme, begins_long_mark}
 use Rattle.lexer.proofs.FormLemmas.{no_form_nil, no_word, id_name}
 use Rattle.lexer.proofs.LexemeLemmas.{token_lexeme}
 

@@ -11,7 +11,7 @@ use Rattle.lexer.specs.declared.lexeme.Lexeme.TheVariants.{Single, Anons}
 use Rattle.lexer.specs.Bytes.{is_lower, is_upper, is_underscore, is_name_byte, is_name_first}
 use Rattle.lexer.specs.Forms.{has_form, is_name}
 use Rattle.lexer.specs.Parts.{Part, token, parts_text, tokens_of, AllStand, IsLongest}
-use Rattle.lexer.specs.Lexeme.{IsLexeme, anon_tokens, letter_kind, name_kind, word_kind}
+use Rattle.lexer.specs.inner.Lexeme.{IsLexeme, anon_tokens, letter_kind, name_kind, word_kind}
 use Rattle.lexer.proofs.ByteLemmas.{run_all, name_from_lower, name_from_upper, name_from_underscore}
 use Rattle.lexer.proofs.FormLemmas.{longest_word, id_name}
 use Rattle.lexer.proofs.LexemeLemmas.{run_lexeme}

@@ -11,7 +11,7 @@ use Rattle.lexer.specs.declared.lexeme.Lexeme.TheVariants.{Single}
 use Rattle.lexer.specs.Bytes.{is_digit}
 use Rattle.lexer.specs.Forms.{is_digits, is_too_large, is_number}
 use Rattle.lexer.specs.Faults.{BeginsDigits}
-use Rattle.lexer.specs.Lexeme.{IsLexeme}
+use Rattle.lexer.specs.inner.Lexeme.{IsLexeme}
 use Rattle.lexer.proofs.ByteLemmas.{run_all}
 use Rattle.lexer.proofs.FormLemmas.{longest_digits}
 use Rattle.lexer.proofs.LexemeLemmas.{run_begins, run_lexeme}

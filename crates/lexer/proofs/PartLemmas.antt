@@ -12,7 +12,7 @@ use Rattle.lexer.specs.declared.lexeme.Lexeme.{Lexeme}
 use Rattle.lexer.specs.Forms.{is_zero_led, is_too_large}
 use Rattle.lexer.specs.Parts.{Part, blank, line_comment, comment, token, part_bytes, part_tokens, parts_text, tokens_of, Stands, AllStand, IsParted}
 use Rattle.lexer.specs.Faults.{BeginsDigits, HasFault, IsStopped}
-use Rattle.lexer.specs.Lexeme.{IsLexeme, lexeme_length, lexeme_tokens}
+use Rattle.lexer.specs.inner.Lexeme.{IsLexeme, lexeme_length, lexeme_tokens}
 use Rattle.lexer.proofs.FormLemmas.{form_some}
 
 pub parts_text-rest : (parts : List Part) (rest : List ℕ) → parts_text parts rest ≡ parts_text parts [] ++ rest

@@ -11,7 +11,7 @@ use Rattle.lexer.specs.Bytes.{is_escape}
 use Rattle.lexer.specs.Forms.{has_form, closes, is_nothing, is_mark}
 use Rattle.lexer.specs.Parts.{IsLongest}
 use Rattle.lexer.specs.Faults.{BeginsNoToken, HasFault}
-use Rattle.lexer.specs.Lexeme.{IsLexeme, string_from}
+use Rattle.lexer.specs.inner.Lexeme.{IsLexeme, string_from}
 use Rattle.lexer.proofs.LexemeLemmas.{token_lexeme}
 use Rattle.lexer.proofs.MarkLemmas.{from_first}
 

@@ -12,7 +12,7 @@ use Rattle.lexer.specs.declared.lexeme.Lexeme.TheVariants.{Single}
 use Rattle.lexer.specs.Forms.{has_form, is_mark}
 use Rattle.lexer.specs.Parts.{IsLongest}
 use Rattle.lexer.specs.Faults.{HasFault}
-use Rattle.lexer.specs.Lexeme.{IsLexeme}
+use Rattle.lexer.specs.inner.Lexeme.{IsLexeme}
 use Rattle.lexer.proofs.FormLemmas.{bytes_are}
 use Rattle.lexer.proofs.LexemeLemmas.{token_lexeme}
 use Rattle.lexer.proofs.MarkLemmas.{from_first}

@@ -3,5 +3,5 @@ pub mod Forms
 pub mod Parts
 pub mod Tokens
 pub mod Faults
-pub mod Lexeme
 pub mod Places
+pub mod inner

@@ -4,7 +4,7 @@ ghost use Rattle.std.specs.List.{position_or_len};
 ghost use Rattle.lexer.specs.Bytes.{is_line_feed};
 ghost use Rattle.lexer.specs.Parts.{begins_close, close_from};
 ghost use Rattle.lexer.specs.Faults.{HasFault};
-ghost use Rattle.lexer.specs.Lexeme.{IsLexeme, begins_comment};
+ghost use Rattle.lexer.specs.inner.Lexeme.{IsLexeme, begins_comment};
 
 use crate::lexeme::Lexeme;
 use crate::token::{LexCause, LexFault};

@@ -1,7 +1,7 @@
 // What stands at the front of a text: a blank, a comment or a token.
 ghost use Rattle.std.specs.Prelude.{◌≡◌, ◌<◌, length, IfOk, IfErr};
 ghost use Rattle.lexer.specs.Faults.{HasFault};
-ghost use Rattle.lexer.specs.Lexeme.{IsLexeme, lexeme_length};
+ghost use Rattle.lexer.specs.inner.Lexeme.{IsLexeme, lexeme_length};
 
 use crate::bytes::{is_blank, is_digit, is_name_first};
 use crate::comment::comment;

@@ -3,7 +3,7 @@ ghost use Rattle.std.specs.Prelude.{◌≡◌, ◌<◌, true, length, IfOk, IfEr
 ghost use Rattle.lexer.specs.Bytes.{is_other};
 ghost use Rattle.lexer.specs.Forms.{is_short_mark};
 ghost use Rattle.lexer.specs.Faults.{HasFault};
-ghost use Rattle.lexer.specs.Lexeme.{IsLexeme, begins_long_mark};
+ghost use Rattle.lexer.specs.inner.Lexeme.{IsLexeme, begins_long_mark};
 
 use crate::lexeme::Lexeme;
 use crate::token::{LexCause, LexFault, TokenKind};

@@ -1,7 +1,7 @@
 // Identifiers, variables and the word `not`.
 ghost use Rattle.std.specs.Prelude.{◌≡◌, ◌<◌, true, length, slice_index};
 ghost use Rattle.lexer.specs.Bytes.{is_name_first};
-ghost use Rattle.lexer.specs.Lexeme.{IsLexeme, letter_kind, name_kind, word_kind};
+ghost use Rattle.lexer.specs.inner.Lexeme.{IsLexeme, letter_kind, name_kind, word_kind};
 
 use crate::bytes::{is_lower, is_upper, name_bytes, underscores};
 use crate::lexeme::Lexeme;

@@ -4,7 +4,7 @@ ghost use Rattle.std.specs.List.{list_all};
 ghost use Rattle.lexer.specs.Bytes.{is_digit};
 ghost use Rattle.lexer.specs.Forms.{is_zero_led, is_too_large};
 ghost use Rattle.lexer.specs.Faults.{HasFault};
-ghost use Rattle.lexer.specs.Lexeme.{IsLexeme};
+ghost use Rattle.lexer.specs.inner.Lexeme.{IsLexeme};
 
 use crate::bytes::digits;
 use crate::lexeme::Lexeme;

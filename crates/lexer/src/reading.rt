@@ -4,7 +4,7 @@ ghost use Rattle.std.specs.List.{All};
 ghost use Rattle.lexer.specs.Parts.{IsParted, IsTokenisation};
 ghost use Rattle.lexer.specs.Tokens.{IsTokenOf, IsInOrder};
 ghost use Rattle.lexer.specs.Faults.{IfFault, IsFirstFault, IsStopped};
-ghost use Rattle.lexer.specs.Lexeme.{anon_tokens, lexeme_length, lexeme_tokens};
+ghost use Rattle.lexer.specs.inner.Lexeme.{anon_tokens, lexeme_length, lexeme_tokens};
 
 use crate::lexeme::{Lexeme, next_lexeme};
 use crate::token::{LexCause, LexFault, LexStop, Token, TokenKind};

@@ -2,7 +2,7 @@
 ghost use Rattle.std.specs.Prelude.{◌≡◌, ◌<◌, false, length, IfOk, IfErr, slice_index};
 ghost use Rattle.lexer.specs.Bytes.{is_escape};
 ghost use Rattle.lexer.specs.Faults.{HasFault};
-ghost use Rattle.lexer.specs.Lexeme.{IsLexeme, string_from};
+ghost use Rattle.lexer.specs.inner.Lexeme.{IsLexeme, string_from};
 
 use crate::lexeme::Lexeme;
 use crate::token::{LexCause, LexFault, TokenKind};

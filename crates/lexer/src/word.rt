@@ -1,7 +1,7 @@
 // The words `#const` and `#show`.
 ghost use Rattle.std.specs.Prelude.{◌≡◌, ◌<◌, length, IfOk, IfErr, slice_index};
 ghost use Rattle.lexer.specs.Faults.{HasFault};
-ghost use Rattle.lexer.specs.Lexeme.{IsLexeme};
+ghost use Rattle.lexer.specs.inner.Lexeme.{IsLexeme};
 
 use crate::lexeme::Lexeme;
 use crate::token::{LexCause, LexFault, TokenKind};

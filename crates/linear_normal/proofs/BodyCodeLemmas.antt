@@ -14,7 +14,7 @@ use Rattle.linear_normal.specs.Contents.{Content}
 use Rattle.linear_normal.specs.Bodies.{element_body, selecting_body}
 use Rattle.linear_normal.specs.Demands.{literal_demands, relation_content}
 use Rattle.linear_normal.specs.Numbering.{lit_of, conjunction_of}
-use Rattle.linear_normal.specs.Tables.{Gives, GivesNumber, IsCountedAtom}
+use Rattle.linear_normal.specs.inner.Tables.{Gives, GivesNumber, IsCountedAtom}
 use Rattle.linear_normal.proofs.GrowthLemmas.{gives_as}
 
 pub literal_given : (before after : List Constraint) (variables : ℕ) (literal : BodyLit) (relation : Relation) (sign : Bool) (n : ℕ) → literal ≡ b.Theory relation sign

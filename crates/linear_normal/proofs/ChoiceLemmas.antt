@@ -14,7 +14,7 @@ use Rattle.linear_normal.specs.declared.numbered.Duty.{Duty}
 use Rattle.linear_normal.specs.Contents.{Counted, Content, SomeTrue}
 use Rattle.linear_normal.specs.Demands.{bound_content, with_content, with_parts, number_of}
 use Rattle.linear_normal.specs.Numbering.{item_of}
-use Rattle.linear_normal.specs.Tables.{Begins, IsBackedTerm, IsTable, Puts, Takes, TakesCompared, Gives, tally_terms, bound_demands, bound_duties, TakenBounds, TakesBounds}
+use Rattle.linear_normal.specs.inner.Tables.{Begins, IsBackedTerm, IsTable, Puts, Takes, TakesCompared, Gives, tally_terms, bound_demands, bound_duties, TakenBounds, TakesBounds}
 use Rattle.linear_normal.proofs.ContentLemmas.{demanded}
 use Rattle.linear_normal.proofs.TableLemmas.{begins_same, begins_then, begins_fold, items_later, backed_terms_later}
 use Rattle.linear_normal.proofs.RelationLemmas.{plain_given}

@@ -5,7 +5,7 @@ use Rattle.ground_model.proofs.Products.{drop_next}
 use Rattle.linear_normal.specs.declared.constraint.Constraint.{Constraint}
 use Rattle.linear_normal.specs.Contents.{Content}
 use Rattle.linear_normal.specs.Demands.{with_content}
-use Rattle.linear_normal.specs.Tables.{Begins, IsTable, Gives}
+use Rattle.linear_normal.specs.inner.Tables.{Begins, IsTable, Gives}
 use Rattle.linear_normal.proofs.TableLemmas.{begins_then, begins_fold}
 
 pub fold_append : (contents demands more : List Content) → fold with_content contents (demands ++ more) ≡ fold with_content (fold with_content contents demands) more

@@ -15,7 +15,7 @@ use Rattle.ground_model.proofs.Bools.{bool_cases}
 use Rattle.ground_model.proofs.MemberLemmas.{same_nat}
 use Rattle.ground_model.proofs.OrderedLemmas.{property_at}
 use Rattle.ground_model.proofs.Products.{drop_next}
-use Rattle.linear_normal.specs.Sums.{nonzero_pairs, kept_pair, Climbs, Rises}
+use Rattle.linear_normal.specs.inner.Sums.{nonzero_pairs, kept_pair, Climbs, Rises}
 
 -- COEFFICIENTS
 

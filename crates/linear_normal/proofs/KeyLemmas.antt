@@ -17,7 +17,7 @@ use Rattle.linear_normal.specs.contracts.constraint.ConstraintPartialEq.TheImpl.
 use Rattle.linear_normal.specs.Contents.{Term, Variable, Counted, Content, SumAtMost, SumEquals, SumDiffers, InSet, AllDiffer, NoneOverlap, SomeTrue, same_content, same_interval}
 use Rattle.linear_normal.specs.Demands.{number_of}
 use Rattle.linear_normal.specs.Numbering.{item_of, constraint_of}
-use Rattle.linear_normal.specs.Tables.{is_there, IsBackedTerm, IsBacked}
+use Rattle.linear_normal.specs.inner.Tables.{is_there, IsBackedTerm, IsBacked}
 use Rattle.linear_normal.specs.Truth.{numbered_in}
 use Rattle.linear_normal.proofs.ContentLemmas.{content_sound, content_same, at_number, int_sound, int_same, nat_same, nat_sound, set_sound, interval_same, place_sound, place_same, lists_sound, lists_same}
 

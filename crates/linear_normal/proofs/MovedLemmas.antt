@@ -12,7 +12,7 @@ use Rattle.ground_model.proofs.Bools.{and_elim, bool_cases}
 use Rattle.ground_model.proofs.MemberLemmas.{all_member}
 use Rattle.ground_model.proofs.SizeLemmas.{sized_relation, sized_objective}
 use Rattle.linear_normal.specs.Demands.{moved_coefficient, moved_pairs}
-use Rattle.linear_normal.specs.Sums.{IsSoundOver, nonzero_pairs, opposite_pair, pairs_in, both_sides, HasSmallCoefficient, HasSmallNumbers}
+use Rattle.linear_normal.specs.inner.Sums.{IsSoundOver, nonzero_pairs, opposite_pair, pairs_in, both_sides, HasSmallCoefficient, HasSmallNumbers}
 use Rattle.linear_normal.proofs.ListLemmas.{range_member, all_append}
 use Rattle.linear_normal.proofs.JoinLemmas.{weight, coefficient_append, pair_of}
 

@@ -24,7 +24,7 @@ use Rattle.linear_normal.specs.Contents.{Content}
 use Rattle.linear_normal.specs.Bodies.{bodies_in, placed}
 use Rattle.linear_normal.specs.Demands.{with_content, rule_demands}
 use Rattle.linear_normal.specs.Numbering.{constraint_of, conjunction_of, head_supports, head_duties, objective_in, contents_in, numbering}
-use Rattle.linear_normal.specs.Tables.{Begins, IsTable, Gives, IsSoundLiteral, IsSoundItem, IsCountedAtom, IsSoundHead, IsSoundRule, HasAtoms, HasAtomsIn, AddsRule}
+use Rattle.linear_normal.specs.inner.Tables.{Begins, IsTable, Gives, IsSoundLiteral, IsSoundItem, IsCountedAtom, IsSoundHead, IsSoundRule, HasAtoms, HasAtomsIn, AddsRule}
 use Rattle.linear_normal.proofs.TableLemmas.{begins_same, begins_then, begins_fold}
 use Rattle.linear_normal.proofs.GrowthLemmas.{fold_append, all_at}
 

@@ -12,7 +12,7 @@ use Rattle.linear_normal.specs.contracts.constraint.ConstraintPartialEq.TheImpl.
 use Rattle.linear_normal.specs.Contents.{Term, Variable, Counted, Content, SumAtMost, SumEquals, SumDiffers, InSet, AllDiffer, NoneOverlap, SomeTrue, opposite, parts_of, same_content}
 use Rattle.linear_normal.specs.Demands.{with_content, with_parts, number_of}
 use Rattle.linear_normal.specs.Numbering.{item_of, constraint_of}
-use Rattle.linear_normal.specs.Tables.{is_there, Begins, IsBackedTerm, IsBacked, HasKeys, IsTable, Puts, IsPlaceOr, Takes, ArePlaces, TakesBoth, TakesEither, TakesCompared, opposite_item}
+use Rattle.linear_normal.specs.inner.Tables.{is_there, Begins, IsBackedTerm, IsBacked, HasKeys, IsTable, Puts, IsPlaceOr, Takes, ArePlaces, TakesBoth, TakesEither, TakesCompared, opposite_item}
 use Rattle.linear_normal.proofs.ContentLemmas.{content_sound, added_is_there}
 use Rattle.linear_normal.proofs.KeyLemmas.{same_keys}
 use Rattle.linear_normal.proofs.TableLemmas.{begins_then, begins_with, begins_fold, there_later, number_later, number_next, number_with, backed_later, constraint_later, keys_later}

@@ -14,8 +14,8 @@ use Rattle.linear_normal.specs.declared.constraint.Constraint.{Constraint}
 use Rattle.linear_normal.specs.Contents.{Content, compared, parts_of}
 use Rattle.linear_normal.specs.Demands.{moved_coefficient, moved_pairs, terms_of, relation_content, theory_content}
 use Rattle.linear_normal.specs.Numbering.{item_of, constraint_of}
-use Rattle.linear_normal.specs.Sums.{IsSoundOver}
-use Rattle.linear_normal.specs.Tables.{IsBackedTerm, IsBacked, IsTable, Puts, Takes, TakesCompared, IsSmallItem, GivesNumber, value_item}
+use Rattle.linear_normal.specs.inner.Sums.{IsSoundOver}
+use Rattle.linear_normal.specs.inner.Tables.{IsBackedTerm, IsBacked, IsTable, Puts, Takes, TakesCompared, IsSmallItem, GivesNumber, value_item}
 use Rattle.linear_normal.proofs.PartLemmas.{alone}
 
 differs : (variables : ℕ) (relation : Relation) → IsSoundOver variables relation → is_small_difference variables (first_places relation.elements) (relation.right ∷ []) ≡ true

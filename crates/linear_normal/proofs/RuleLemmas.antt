@@ -19,7 +19,7 @@ use Rattle.linear_normal.specs.Contents.{Content, SomeTrue}
 use Rattle.linear_normal.specs.Bodies.{is_bounded, element_body, selecting_body, head_bodies, numbers_with, atoms_in, selections}
 use Rattle.linear_normal.specs.Demands.{theory_content, bounds_of, with_parts, literal_demands, choice_demands, head_demands, rule_demands, number_of}
 use Rattle.linear_normal.specs.Numbering.{lit_of, conjunction_of, head_duties}
-use Rattle.linear_normal.specs.Tables.{Gives, GivesNumber, bound_demands, bound_duties, HasAtoms, HasAtomsIn, Adds, AddsRule}
+use Rattle.linear_normal.specs.inner.Tables.{Gives, GivesNumber, bound_demands, bound_duties, HasAtoms, HasAtomsIn, Adds, AddsRule}
 use Rattle.linear_normal.proofs.GrowthLemmas.{gives_none, gives_as, gives_then}
 
 -- where bodies stand behind the others in any numbers

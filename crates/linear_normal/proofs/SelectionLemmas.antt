@@ -19,7 +19,7 @@ use Rattle.ground_model.proofs.Ascending.{ascending_same}
 use Rattle.ground_model.proofs.Bools.{and_elim, and_intro, or_elim, same_test}
 use Rattle.ground_model.proofs.MemberLemmas.{same_nat, any_member, member_any, member_map, map_member, member_contains, contains_member, property_member}
 use Rattle.linear_normal.specs.Bodies.{atoms_in, numbers_with}
-use Rattle.linear_normal.specs.Tables.{IsSoundItem}
+use Rattle.linear_normal.specs.inner.Tables.{IsSoundItem}
 use Rattle.linear_normal.proofs.GrowthLemmas.{mapped_next}
 use Rattle.linear_normal.proofs.ListLemmas.{among_member, member_among, member_filter, filter_member, numbered_range}
 

@@ -9,7 +9,7 @@ use Rattle.linear_normal.specs.contracts.constraint.ConstraintPartialEq.TheImpl.
 use Rattle.linear_normal.specs.Contents.{Term, Variable, Counted, Content, SumAtMost, SumEquals, SumDiffers, InSet, AllDiffer, NoneOverlap, SomeTrue, opposite, parts_of, same_content}
 use Rattle.linear_normal.specs.Demands.{with_content, number_of}
 use Rattle.linear_normal.specs.Numbering.{item_of, constraint_of}
-use Rattle.linear_normal.specs.Tables.{is_there, Begins, IsBackedTerm, IsBacked, HasKeys, Puts, IsPlaceOr}
+use Rattle.linear_normal.specs.inner.Tables.{is_there, Begins, IsBackedTerm, IsBacked, HasKeys, Puts, IsPlaceOr}
 use Rattle.linear_normal.proofs.ContentLemmas.{content_same}
 use Rattle.linear_normal.proofs.KeyLemmas.{same_keys}
 

@@ -1,11 +1,10 @@
 pub mod Contents
 pub mod Bodies
 pub mod Demands
-pub mod Sums
 pub mod Numbering
 pub mod Truth
 pub mod Holds
 pub mod Bounds
 pub mod Steps
 pub mod Laws
-pub mod Tables
+pub mod inner

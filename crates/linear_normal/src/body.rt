@@ -8,7 +8,7 @@ ghost use Rattle.linear_normal.specs.Contents.{Content};
 ghost use Rattle.linear_normal.specs.Bodies.{element_body, selecting_body};
 ghost use Rattle.linear_normal.specs.Demands.{literal_demands};
 ghost use Rattle.linear_normal.specs.Numbering.{lit_of, conjunction_of};
-ghost use Rattle.linear_normal.specs.Tables.{Gives, IsSoundLiteral, IsSoundItem, IsCountedAtom};
+ghost use Rattle.linear_normal.specs.inner.Tables.{Gives, IsSoundLiteral, IsSoundItem, IsCountedAtom};
 
 use crate::constraint::Constraint;
 use crate::numbered::Conjunction;

@@ -3,7 +3,7 @@ ghost use Rattle.std.specs.Prelude.{◌≡◌, ◌≤◌, ◌++◌, ◌∷◌, [
 ghost use Rattle.std.specs.List.{All};
 ghost use Rattle.linear_normal.specs.Contents.{Counted, SomeTrue};
 ghost use Rattle.linear_normal.specs.Numbering.{item_of};
-ghost use Rattle.linear_normal.specs.Tables.{Gives, IsSmallItem, TakesCompared, TakesBounds, tally_terms, bound_demands, bound_duties};
+ghost use Rattle.linear_normal.specs.inner.Tables.{Gives, IsSmallItem, TakesCompared, TakesBounds, tally_terms, bound_demands, bound_duties};
 
 use crate::compared::add_compared;
 use crate::constraint::{Constraint, Item};

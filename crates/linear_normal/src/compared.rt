@@ -1,7 +1,7 @@
 // Sums in relation to a number.
 ghost use Rattle.std.specs.Prelude.{◌≡◌, ◌<◌, ◌≤◌, ◌^◌, unsigned_abs, map, IfOk};
 ghost use Rattle.std.specs.List.{All};
-ghost use Rattle.linear_normal.specs.Tables.{IsSmallItem, opposite_item as turned_item, TakesCompared};
+ghost use Rattle.linear_normal.specs.inner.Tables.{IsSmallItem, opposite_item as turned_item, TakesCompared};
 
 use crate::constraint::{Constraint, Item};
 use crate::table::{add_both, add_either, put};

@@ -3,7 +3,7 @@ ghost use Rattle.std.specs.Prelude.{◌≡◌, ◌++◌, ℕ, true, length, IfOk
 ghost use Rattle.std.specs.List.{AllByRecursion};
 ghost use Rattle.ground_model.specs.Sizes.{IsSoundPair};
 ghost use Rattle.ground_model.specs.Sound.{is_small, coefficient as coefficient_of};
-ghost use Rattle.linear_normal.specs.Sums.{Climbs, nonzero_pairs, kept_pair};
+ghost use Rattle.linear_normal.specs.inner.Sums.{Climbs, nonzero_pairs, kept_pair};
 
 use std::alloc::Global;
 use symbols::{Listed, Memory};

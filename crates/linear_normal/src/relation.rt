@@ -1,8 +1,8 @@
 // Relations and theory atoms by number.
 ghost use Rattle.std.specs.Prelude.{◌≡◌, ◌≤◌, map, IfOk};
 ghost use Rattle.linear_normal.specs.Demands.{relation_content, theory_content};
-ghost use Rattle.linear_normal.specs.Sums.{IsSoundOver};
-ghost use Rattle.linear_normal.specs.Tables.{IsSoundTheory, GivesNumber, value_item};
+ghost use Rattle.linear_normal.specs.inner.Sums.{IsSoundOver};
+ghost use Rattle.linear_normal.specs.inner.Tables.{IsSoundTheory, GivesNumber, value_item};
 
 use crate::compared::add_compared;
 use crate::constraint::{Constraint, Item};

@@ -8,7 +8,7 @@ ghost use Rattle.linear_normal.specs.Contents.{SomeTrue};
 ghost use Rattle.linear_normal.specs.Bodies.{is_bounded as bounded_test, selections as selections_of, selecting_body, head_bodies};
 ghost use Rattle.linear_normal.specs.Demands.{bounds_of, head_demands, rule_demands};
 ghost use Rattle.linear_normal.specs.Numbering.{head_duties, head_supports};
-ghost use Rattle.linear_normal.specs.Tables.{Gives, IsSoundItem, IsSoundHead, IsSoundRule, HasAtoms, HasAtomsIn, Adds, AddsRule, bound_demands, bound_duties};
+ghost use Rattle.linear_normal.specs.inner.Tables.{Gives, IsSoundItem, IsSoundHead, IsSoundRule, HasAtoms, HasAtomsIn, Adds, AddsRule, bound_demands, bound_duties};
 
 use crate::body::{add_element_bodies, add_literals, add_selecting_bodies, conjunction};
 use crate::choice::add_bounds;

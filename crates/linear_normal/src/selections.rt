@@ -3,7 +3,7 @@ ghost use Rattle.std.specs.Prelude.{◌≡◌, ◌+◌, ◌<◌, ◌≤◌, ◌^
 ghost use Rattle.std.specs.List.{AllByRecursion, list_any};
 ghost use Rattle.ground_model.specs.Answers.{IsNumbered, ascend_from, has_atom};
 ghost use Rattle.linear_normal.specs.Bodies.{atoms_in, numbers_with};
-ghost use Rattle.linear_normal.specs.Tables.{IsSoundItem};
+ghost use Rattle.linear_normal.specs.inner.Tables.{IsSoundItem};
 
 use ground_model::ChoiceItem;
 use std::alloc::Global;

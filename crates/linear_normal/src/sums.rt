@@ -7,7 +7,7 @@ ghost use Rattle.std.specs.List.{AllByRecursion};
 ghost use Rattle.ground_model.specs.Sound.{is_small, first_places, total_constant as constant_of};
 ghost use Rattle.linear_normal.specs.Demands.{moved_pairs};
 ghost use Rattle.linear_normal.specs.Numbering.{objective_in};
-ghost use Rattle.linear_normal.specs.Sums.{IsSoundOver, HasSmallCoefficient, HasSmallNumbers, opposite_pair, pairs_in, both_sides};
+ghost use Rattle.linear_normal.specs.inner.Sums.{IsSoundOver, HasSmallCoefficient, HasSmallNumbers, opposite_pair, pairs_in, both_sides};
 
 use crate::joined::joined;
 use ground_model::{GroundProgram, Linear, Place, Relation};

@@ -1,7 +1,7 @@
 // The table of constraints, which finds equal ones by their hashes. A constraint's number is its place,
 // counted from 1.
 ghost use Rattle.std.specs.Prelude.{◌≡◌, ◌+◌, ◌<◌, ◌≤◌, ◌^◌, length, IfOk, OnOk, OnErr};
-ghost use Rattle.linear_normal.specs.Tables.{Puts, IsPlaceOr, ArePlaces, TakesBoth, TakesEither};
+ghost use Rattle.linear_normal.specs.inner.Tables.{Puts, IsPlaceOr, ArePlaces, TakesBoth, TakesEither};
 
 use crate::constraint::Constraint;
 use indexmap::IndexSet;

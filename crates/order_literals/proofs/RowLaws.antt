@@ -7,7 +7,7 @@ use Rattle.std.proofs.lemmas.Bool.Decides.{nat_tests}
 use Rattle.std.proofs.lemmas.Int.{ints, to_z-of_z}
 use Rattle.std.proofs.lemmas.List.{get_or_default}
 use Rattle.order_literals.specs.declared.row.Made.{Made}
-use Rattle.order_literals.specs.Rows.{Ascends, place_in, found, last_below, below_in, above_in, placed}
+use Rattle.order_literals.specs.inner.Rows.{Ascends, place_in, found, last_below, below_in, above_in, placed}
 
 -- each number is above this one
 abbrev pub Above : ℤ → List Made → Type 0

@@ -8,7 +8,7 @@ use Rattle.std.proofs.lemmas.Bool.Decides.{nat_tests}
 use Rattle.std.proofs.lemmas.Int.{ints, to_z-of_z}
 use Rattle.order_literals.specs.declared.row.Made.{Made}
 use Rattle.order_literals.specs.declared.table.OrderLit.{OrderLit}
-use Rattle.order_literals.specs.Rows.{Ascends, found, last_below, below_in, above_in, placed, rowed, row_of}
+use Rattle.order_literals.specs.inner.Rows.{Ascends, found, last_below, below_in, above_in, placed, rowed, row_of}
 use Rattle.order_literals.specs.Orders.{OrderLits, is_order, place_from, place_of, with_literal, IsNearestBelow, IsNearestAbove, IsTable}
 use Rattle.order_literals.proofs.RowLaws.{Above, first_some, first_some-none, found-placed, ascends_placed}
 

@@ -3,7 +3,7 @@ use Rattle.std.specs.Prelude.{◌≡◌, ℕ, suc, ◌+◌, ◌<◌, length, get
 use Rattle.std.specs.Ordering.{int_eq}
 use Rattle.order_literals.specs.declared.table.OrderLit.{OrderLit}
 use Rattle.order_literals.specs.declared.row.Made.{Made}
-use Rattle.order_literals.specs.Rows.{row_of}
+use Rattle.order_literals.specs.inner.Rows.{row_of}
 
 -- how many variables there are, numbered from 1, and the literals that were made
 pub record OrderLits : Type 0 where

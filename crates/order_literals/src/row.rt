@@ -1,6 +1,6 @@
 // The order literals of one variable, ascending by their numbers.
 ghost use Rattle.std.specs.Prelude.{◌≡◌, ◌≤◌, ◌<◌, None, [], length, OnOk, OnErr};
-ghost use Rattle.order_literals.specs.Rows.{Ascends, place_in, found, below_in, above_in, placed};
+ghost use Rattle.order_literals.specs.inner.Rows.{Ascends, place_in, found, below_in, above_in, placed};
 
 use std::alloc::{AllocError, Global};
 use std::marker::Model;
@@ -45,7 +45,7 @@ impl Model for Row {
 
     ghost Value = { List Made };
 
-    ghost use Rattle.order_literals.specs.Rows.{Ascends};
+    ghost use Rattle.order_literals.specs.inner.Rows.{Ascends};
 
     ghost view = { λ row. row.list.items };
 

@@ -1,6 +1,6 @@
 // The table of order literals.
 ghost use Rattle.std.specs.Prelude.{◌≡◌, ◌≤◌, ◌<◌, ◌+◌, None, [], length, slice_set, slice_index_or, IfOk, OnOk, OnErr, replicate};
-ghost use Rattle.order_literals.specs.Rows.{found, placed};
+ghost use Rattle.order_literals.specs.inner.Rows.{found, placed};
 ghost use Rattle.order_literals.specs.Orders.{OrderLits, place_of, with_literal, IsNearestBelow, IsNearestAbove};
 
 use crate::order_id::OrderId;

@@ -4,5 +4,4 @@ pub mod Order
 pub mod Text
 pub mod Table
 pub mod View
-pub mod Sorted
 pub mod inner

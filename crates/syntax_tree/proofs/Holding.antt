@@ -13,7 +13,7 @@ use Rattle.syntax_tree.specs.declared.worth.Places.{Places}
 use Rattle.syntax_tree.specs.declared.worth.Places.TheVariants as places
 use Rattle.syntax_tree.specs.Outcome.{IsSymbol, IsUndefined, IsKnown, outcome_of, bound_in}
 use Rattle.syntax_tree.specs.Value.{AreSymbols, with_argument, variable}
-use Rattle.syntax_tree.specs.Worth.{outcome, outcomes, IsHeld, IsOptionHeld, gathered, AreHeld, bound_at}
+use Rattle.syntax_tree.specs.inner.Worth.{outcome, outcomes, IsHeld, IsOptionHeld, gathered, AreHeld, bound_at}
 
 pub ok_along : {A E : Type 0} (r : Result A E) (P Q : A → Type 0) → IfOk r P → ((x : A) → P x → Q x) → IfOk r Q
 ok_along (Ok x) P Q h f = f x h

@@ -18,7 +18,7 @@ use Rattle.syntax_tree.specs.declared.worth.Places.TheVariants as places
 use Rattle.syntax_tree.specs.Tree.{is_name, is_term, is_part, are_parts, begins_sum, adds, begins_product, multiplies}
 use Rattle.syntax_tree.specs.Outcome.{Outcome, IsSymbol, IsOver, IsUndefined, IsKnown, bound_in}
 use Rattle.syntax_tree.specs.Value.{AreSymbols, HasOver, HasUndefined, with_argument, shallow, applied_to, joined, variable, value_of, part_value, value_step, part_step}
-use Rattle.syntax_tree.specs.Worth.{outcome, outcomes, IsOptionHeld, gathered, AreHeld}
+use Rattle.syntax_tree.specs.inner.Worth.{outcome, outcomes, IsOptionHeld, gathered, AreHeld}
 use Rattle.syntax_tree.proofs.TreeRules.{function_rules, tuple_rules, sum_rules, product_rules}
 use Rattle.syntax_tree.proofs.Holding.{gathered-front, outcomes-front, bound-front}
 

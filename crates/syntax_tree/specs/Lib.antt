@@ -4,5 +4,5 @@ pub mod Statements
 pub mod Outcome
 pub mod Arithmetic
 pub mod Value
-pub mod Worth
 pub mod Printed
+pub mod inner

@@ -3,7 +3,7 @@ ghost use Rattle.std.specs.Prelude.{◌≡◌, ◌<◌, length, IfOk, IsTrue, Al
 ghost use Rattle.symbols.specs.Table.{IsFront, IsOnce};
 ghost use Rattle.syntax_tree.specs.Tree.{is_term};
 ghost use Rattle.syntax_tree.specs.Outcome.{IsKnown, bound_in, outcome_of};
-ghost use Rattle.syntax_tree.specs.Worth.{IsHeld, outcome};
+ghost use Rattle.syntax_tree.specs.inner.Worth.{IsHeld, outcome};
 ghost use Rattle.syntax_tree.specs.Value.{value_of as value, plain};
 
 use crate::amount::Amount;

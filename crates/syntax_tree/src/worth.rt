@@ -7,7 +7,7 @@ ghost use Rattle.syntax_tree.specs.Tree.{is_term, is_part};
 ghost use Rattle.syntax_tree.specs.Outcome.{IsSymbol, IsOver, IsKnown, bound_in, outcome_of};
 ghost use Rattle.syntax_tree.specs.Value as spec;
 ghost use Rattle.syntax_tree.specs.Value.{AreSymbols};
-ghost use Rattle.syntax_tree.specs.Worth as held;
+ghost use Rattle.syntax_tree.specs.inner.Worth as held;
 
 use crate::amount::{Amount, combined};
 use crate::binding::{Binding, Value};

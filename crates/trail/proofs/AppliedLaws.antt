@@ -7,8 +7,8 @@ use Rattle.literals.specs.Lits.{complement_of}
 use Rattle.trail.specs.declared.shape.Shape.{Shape}
 use Rattle.trail.specs.Implied.{truth_of, lower_of, upper_of}
 use Rattle.trail.specs.Assignment.{IsOf}
-use Rattle.trail.specs.Cells.{Layout, is_fact, slot_of, upper_in, lower_in, mark_in, bound_of, applied}
-use Rattle.trail.specs.Kept.{latest, Fits, Shows}
+use Rattle.trail.specs.inner.Cells.{Layout, is_fact, slot_of, upper_in, lower_in, mark_in, bound_of, applied}
+use Rattle.trail.specs.inner.Kept.{latest, Fits, Shows}
 use Rattle.trail.proofs.ImpliedLaws.{upper-push, lower-push}
 use Rattle.trail.proofs.CellLaws.{get_other, get_same, fact_one, fact_opposite, fact_written, after_fact, after_bound, mark_written, fits-written, truth_here, truth_there, fact_apart, bound_keeps, here_upper, here_lower, apart_upper, apart_lower, latest-push}
 

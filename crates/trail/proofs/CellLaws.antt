@@ -18,8 +18,8 @@ use Rattle.literals.proofs.PlaceLaws.{places_same, place_within}
 use Rattle.trail.specs.declared.shape.Shape.{Shape}
 use Rattle.trail.specs.Implied.{implied, truth_of, lower_after, upper_after, lower_of, upper_of}
 use Rattle.trail.specs.Assignment.{IsOf}
-use Rattle.trail.specs.Cells.{Layout, is_fact, slot_of, HasBounds, HasPlace, upper_in, lower_in, truth_in, saved_in, with_truths, written}
-use Rattle.trail.specs.Kept.{last_from, latest, Fits, Shows, SavesBound}
+use Rattle.trail.specs.inner.Cells.{Layout, is_fact, slot_of, HasBounds, HasPlace, upper_in, lower_in, truth_in, saved_in, with_truths, written}
+use Rattle.trail.specs.inner.Kept.{last_from, latest, Fits, Shows, SavesBound}
 use Rattle.trail.proofs.ShapeLaws.{of_counted}
 use Rattle.trail.proofs.ImpliedLaws.{implied-push, open_is, truth-of, upper-push, lower-push, implied-at_most, implied-at_least}
 

@@ -16,8 +16,8 @@ use Rattle.trail.specs.declared.entry.Why.{Why}
 use Rattle.trail.specs.declared.entry.Slot.{Slot}
 use Rattle.trail.specs.Implied.{truth_of}
 use Rattle.trail.specs.Assignment.{Assignment, lits_of, counts_of, Names, Follow, undone_to, IsAssignment, orders_with, with_entry, entry_of}
-use Rattle.trail.specs.Cells.{Layout, is_fact, slot_of, HasPlace, saved_in, mark_in, applied, reverted, end_pairs}
-use Rattle.trail.specs.Kept.{latest, Shows, SavesBound, Saved, entries_of, IsTrail, IsBoundOf}
+use Rattle.trail.specs.inner.Cells.{Layout, is_fact, slot_of, HasPlace, saved_in, mark_in, applied, reverted, end_pairs}
+use Rattle.trail.specs.inner.Kept.{latest, Shows, SavesBound, Saved, entries_of, IsTrail, IsBoundOf}
 use Rattle.trail.proofs.CellLaws.{has_place, saved-shown}
 use Rattle.trail.proofs.AppliedLaws.{fits-applied, shows-applied}
 use Rattle.trail.proofs.RevertedLaws.{fits-reverted, shows-reverted}

@@ -10,7 +10,7 @@ use Rattle.trail.specs.declared.entry.Entry.{Entry}
 use Rattle.trail.specs.declared.entry.Slot.{Slot}
 use Rattle.trail.specs.Implied.{bound_before}
 use Rattle.trail.specs.Assignment.{Assignment, lits_of}
-use Rattle.trail.specs.Kept.{SavesBound, Saved, bound_saved, entries_of}
+use Rattle.trail.specs.inner.Kept.{SavesBound, Saved, bound_saved, entries_of}
 use Rattle.trail.proofs.KeptLaws.{entry_at, length-entries}
 
 saved_at : (ends : Ends) (before : List Lit) (ts : List Slot) (i : ℕ) (d : Slot) → Saved ends before ts → i < length ts → SavesBound ends (before ++ take i (lits_of (entries_of ts))) (get_or ts i d).entry.lit (get_or ts i d).saved

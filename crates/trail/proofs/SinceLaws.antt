@@ -12,7 +12,7 @@ use Rattle.trail.specs.declared.shape.Shape.{Shape}
 use Rattle.trail.specs.declared.entry.Slot.{Slot}
 use Rattle.trail.specs.Implied.{ends_imply, implied, truth_of, first_from}
 use Rattle.trail.specs.Assignment.{Assignment, lits_of, Follow, is_true_on, since_on}
-use Rattle.trail.specs.Kept.{latest, Saved, entries_of, Outdoes, Marked, AreMarked}
+use Rattle.trail.specs.inner.Kept.{latest, Saved, entries_of, Outdoes, Marked, AreMarked}
 use Rattle.trail.proofs.ImpliedLaws.{open_is}
 use Rattle.trail.proofs.CellLaws.{apart_implies, latest-push, latest_same, cell_same}
 

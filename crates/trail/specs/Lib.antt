@@ -2,5 +2,4 @@ pub mod Implied
 pub mod Assignment
 pub mod Growth
 pub mod Forced
-pub mod Cells
-pub mod Kept
+pub mod inner

@@ -2,7 +2,7 @@
 ghost use Rattle.std.specs.Prelude.{◌≡◌, ◌<◌, ◌+◌, ◌*◌, length, set, replicate, None, IfOk};
 ghost use Rattle.literals.specs.Places.{places_of};
 ghost use Rattle.trail.specs.Assignment.{counts_of};
-ghost use Rattle.trail.specs.Cells.{HasPlace, truth_in, upper_in, lower_in, saved_in, mark_in, bound_of as of_lit, decided, written, applied, reverted, end_pairs};
+ghost use Rattle.trail.specs.inner.Cells.{HasPlace, truth_in, upper_in, lower_in, saved_in, mark_in, bound_of as of_lit, decided, written, applied, reverted, end_pairs};
 
 use crate::shape::Shape;
 use literals::{Lit, Places};
@@ -22,7 +22,7 @@ pub(crate) struct Cells {
 }
 
 impl Model for Cells {
-    ghost use Rattle.trail.specs.Cells.{Layout};
+    ghost use Rattle.trail.specs.inner.Cells.{Layout};
 
     ghost Value = { Layout };
 

@@ -1,6 +1,6 @@
 // What stands on a trail.
 ghost use Rattle.std.specs.Prelude.{◌≡◌};
-ghost use Rattle.trail.specs.Kept.{bound_saved};
+ghost use Rattle.trail.specs.inner.Kept.{bound_saved};
 
 use literals::{Lit, Reason};
 

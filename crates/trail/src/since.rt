@@ -2,7 +2,7 @@
 ghost use Rattle.std.specs.Prelude.{◌≡◌};
 ghost use Rattle.trail.specs.Implied.{ends_imply, first_from};
 ghost use Rattle.trail.specs.Assignment.{lits_of};
-ghost use Rattle.trail.specs.Kept.{AreMarked, entries_of, latest};
+ghost use Rattle.trail.specs.inner.Kept.{AreMarked, entries_of, latest};
 
 use crate::entry::Slot;
 use literals::{Lit, implies};

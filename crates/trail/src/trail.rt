@@ -3,7 +3,7 @@ ghost use Rattle.std.specs.Prelude.{◌≡◌, ◌<◌, ◌≤◌, ◌+◌, [], 
 ghost use Rattle.trail.specs.declared.entry.Entry.{Entry};
 ghost use Rattle.trail.specs.Implied.{bound_before};
 ghost use Rattle.trail.specs.Assignment.{Assignment, lits_of, truth_on, lower_on, upper_on, since_on, Names, undone_to, Places, orders_with, IsAssignment};
-ghost use Rattle.trail.specs.Kept.{IsBoundOf};
+ghost use Rattle.trail.specs.inner.Kept.{IsBoundOf};
 
 use crate::cells::Cells;
 use crate::entry::{Entry, Placed, Slot, Why, replaced_by};
@@ -29,7 +29,7 @@ pub struct Trail {
 
 impl Model for Trail {
     ghost use Rattle.trail.specs.Assignment.{Assignment};
-    ghost use Rattle.trail.specs.Kept.{IsTrail, entries_of};
+    ghost use Rattle.trail.specs.inner.Kept.{IsTrail, entries_of};
 
     ghost Value = { Assignment };
 

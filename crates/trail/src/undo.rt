@@ -1,7 +1,7 @@
 // Taking slots back from the end of a trail.
 ghost use Rattle.std.specs.Prelude.{◌≡◌, ◌<◌, ◌≤◌, ◌-◌, [], ◌∷◌, ◌++◌, length, slice_index_or, IfSome, IfNone, List};
 ghost use Rattle.trail.specs.declared.entry.Slot.{Slot};
-ghost use Rattle.trail.specs.Cells.{HasPlace, reverted};
+ghost use Rattle.trail.specs.inner.Cells.{HasPlace, reverted};
 
 use crate::cells::Cells;
 use crate::entry::Slot;

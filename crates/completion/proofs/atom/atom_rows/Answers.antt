@@ -3,7 +3,7 @@ use Rattle.std.proofs.Math.Seq.{take-suc}
 use Rattle.literals.specs.declared.lit.Lit.{Lit}
 use Rattle.literals.specs.declared.lit.Lit.TheVariants.{Body}
 use Rattle.linear_normal.specs.declared.numbered.Support.{Support}
-use Rattle.completion.specs.Parts.{atom_lits}
+use Rattle.completion.specs.inner.Parts.{atom_lits}
 use Rattle.completion.proofs.RowLemmas.{rows_length}
 use Rattle.completion.proofs.AtomLemmas.{row_pushed}
 use Rattle.completion.proofs.atom.atom_rows.Goals as goal

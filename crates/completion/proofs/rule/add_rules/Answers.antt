@@ -4,7 +4,7 @@ use Rattle.ground_model.specs.declared.rule.GroundRule.{GroundRule}
 use Rattle.linear_normal.specs.Bodies.{bodies_in, placed}
 use Rattle.linear_normal.specs.Numbering.{contents_in}
 use Rattle.completion.specs.Inputs.{rule_nogoods}
-use Rattle.completion.specs.Parts.{duty_count_of}
+use Rattle.completion.specs.inner.Parts.{duty_count_of}
 use Rattle.completion.proofs.RuleLemmas.{IsLeft, left_first, left_step}
 use Rattle.completion.proofs.rule.add_rules.Goals as goal
 

@@ -1,5 +1,5 @@
 use Rattle.std.proofs.Common.{◌≡◌, ◌++◌, drop, flat_map}
-use Rattle.completion.specs.Waits.{positive_atom}
+use Rattle.completion.specs.inner.Waits.{positive_atom}
 use Rattle.completion.proofs.tight.add_positive.Given as goal
 
 abbrev pub invariant-loop-lit : goal.invariant-loop-lit

@@ -1,7 +1,7 @@
 use Rattle.std.proofs.Common.{◌≡◌, ◌∙◌, ◌+◌, true, ap, sym, subst, length, vec_items, arith, All, Bool, List}
 use Rattle.definite_rules.specs.Rule.{DefiniteRule}
 use Rattle.definite_rules.specs.Least.{IsLeastModel, IsLeastClosed, flag_at}
-use Rattle.completion.specs.Waits.{waits_of}
+use Rattle.completion.specs.inner.Waits.{waits_of}
 use Rattle.completion.proofs.RowLemmas.{rows_length}
 use Rattle.completion.proofs.WaitLemmas.{rules_made}
 use Rattle.completion.proofs.TightLemmas.{known_supports_in, known_rules, known_atoms, known_waits, tight_exactly}

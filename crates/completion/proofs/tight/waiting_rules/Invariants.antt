@@ -1,5 +1,5 @@
 use Rattle.std.proofs.Common.{◌≡◌, ◌++◌, map, drop, vec_items}
-use Rattle.completion.specs.Waits.{rules_with}
+use Rattle.completion.specs.inner.Waits.{rules_with}
 use Rattle.completion.proofs.tight.waiting_rules.Given as goal
 
 abbrev pub invariant-loop-at : goal.invariant-loop-at

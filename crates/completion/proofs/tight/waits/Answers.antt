@@ -2,7 +2,7 @@ use Rattle.std.proofs.Common.{◌∙◌, ◌++◌, ap, ap₂, get_or, take, vec_
 use Rattle.std.proofs.Math.Seq.{take-suc}
 use Rattle.linear_normal.specs.declared.numbered.Conjunction.{Conjunction}
 use Rattle.linear_normal.specs.declared.numbered.Support.{Support}
-use Rattle.completion.specs.Waits.{positive_atom, waits_of}
+use Rattle.completion.specs.inner.Waits.{positive_atom, waits_of}
 use Rattle.completion.proofs.RowLemmas.{rows_length}
 use Rattle.completion.proofs.WaitLemmas.{wait_added}
 use Rattle.completion.proofs.tight.waits.Goals as goal

@@ -1,6 +1,6 @@
 use Rattle.std.proofs.Common.{◌≡◌, map, take, vec_items}
 use Rattle.std.specs.List.{range_with_len}
-use Rattle.completion.specs.Waits.{waits_of}
+use Rattle.completion.specs.inner.Waits.{waits_of}
 use Rattle.completion.proofs.tight.waits.Given as goal
 
 abbrev pub invariant-loop-support : goal.invariant-loop-support

@@ -5,7 +5,7 @@ use Rattle.literals.specs.Lits.{IsLit}
 use Rattle.literals.specs.Nogoods.{canonical}
 use Rattle.trail.specs.Assignment.{Names}
 use Rattle.conflict_analysis.specs.Levels.{IsAsserting}
-use Rattle.conflict_analysis.specs.Runs.{highest_but}
+use Rattle.conflict_analysis.specs.inner.Runs.{highest_but}
 use Rattle.conflict_analysis.proofs.FinalLaws.{IsLearned, learned, left_of, kept_literals, run_literals}
 use Rattle.conflict_analysis.proofs.analysis.analyse.Goals as goal
 

@@ -1,6 +1,6 @@
 use Rattle.std.proofs.Common.{sym, subst}
 use Rattle.conflict_analysis.specs.Marked.{Board}
-use Rattle.conflict_analysis.specs.Runs.{Drains}
+use Rattle.conflict_analysis.specs.inner.Runs.{Drains}
 use Rattle.conflict_analysis.proofs.DrainLaws.{drain_step, mark_literal, taken_literals}
 use Rattle.conflict_analysis.proofs.drain.drain.Goals as goal
 

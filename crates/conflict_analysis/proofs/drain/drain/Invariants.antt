@@ -1,6 +1,6 @@
 use Rattle.std.proofs.Common.{length, [], ℕ}
 use Rattle.conflict_analysis.specs.Marked.{mark_at}
-use Rattle.conflict_analysis.specs.Runs.{Setting, Drains, LitOfMark}
+use Rattle.conflict_analysis.specs.inner.Runs.{Setting, Drains, LitOfMark}
 use Rattle.conflict_analysis.proofs.drain.drain.Given as goal
 
 abbrev pub invariant-drain : goal.invariant-drain

@@ -1,5 +1,5 @@
 use Rattle.std.proofs.Common.{◌≡◌, max, drop}
-use Rattle.conflict_analysis.specs.Runs.{highest_but}
+use Rattle.conflict_analysis.specs.inner.Runs.{highest_but}
 use Rattle.conflict_analysis.proofs.level.next_highest.Given as goal
 
 abbrev pub invariant-loop-lit : goal.invariant-loop-lit

@@ -2,7 +2,7 @@ use Rattle.std.proofs.Common.{◌+◌, ap, sym, subst, ◌∙◌, drop}
 use Rattle.trail.specs.Assignment.{Names}
 use Rattle.nogood_store.proofs.HeldLaws.{all_at}
 use Rattle.conflict_analysis.specs.Marked.{Board, Fits, IsMark, mark_at}
-use Rattle.conflict_analysis.specs.Runs.{boards_with, all_but}
+use Rattle.conflict_analysis.specs.inner.Runs.{boards_with, all_but}
 use Rattle.conflict_analysis.proofs.RunLaws.{fits_board, marks_board, in_step}
 use Rattle.conflict_analysis.proofs.put.put_all.Goals as goal
 

@@ -1,6 +1,6 @@
 use Rattle.std.proofs.Common.{◌≡◌, ℕ, drop}
 use Rattle.conflict_analysis.specs.Marked.{Fits, IsMark, mark_at, high_count}
-use Rattle.conflict_analysis.specs.Runs.{boards_with, all_but}
+use Rattle.conflict_analysis.specs.inner.Runs.{boards_with, all_but}
 use Rattle.conflict_analysis.proofs.put.put_all.Given as goal
 
 abbrev pub invariant-loop-lit : goal.invariant-loop-lit

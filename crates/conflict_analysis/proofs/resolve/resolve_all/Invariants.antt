@@ -1,6 +1,6 @@
 use Rattle.std.proofs.Common.{◌≤◌, length}
 use Rattle.trail.specs.Assignment.{IsAssignment}
-use Rattle.conflict_analysis.specs.Runs.{Runs}
+use Rattle.conflict_analysis.specs.inner.Runs.{Runs}
 use Rattle.conflict_analysis.proofs.resolve.resolve_all.Given as goal
 
 abbrev pub ghost-resolve_at : goal.ghost-resolve_at

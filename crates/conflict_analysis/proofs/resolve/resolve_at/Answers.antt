@@ -3,7 +3,7 @@ use Rattle.std.specs.List.{AllByRecursion}
 use Rattle.literals.specs.declared.lit.Lit.{Lit}
 use Rattle.trail.specs.Assignment.{Names}
 use Rattle.literals.specs.Nogoods.{without}
-use Rattle.conflict_analysis.specs.Runs.{boards_with}
+use Rattle.conflict_analysis.specs.inner.Runs.{boards_with}
 use Rattle.conflict_analysis.specs.Marked.{Board, IsMark, mark_at, high_count}
 use Rattle.conflict_analysis.proofs.CountLaws.{entry_named}
 use Rattle.conflict_analysis.proofs.ResolveLaws.{reason_at, ready_no_decision, ready_left, ready_least, ready_place, ready_pends, ready_run}

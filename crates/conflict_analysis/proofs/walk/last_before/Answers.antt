@@ -1,5 +1,5 @@
 use Rattle.std.proofs.Common.{arith, sym, subst}
-use Rattle.conflict_analysis.specs.Runs.{IsHit}
+use Rattle.conflict_analysis.specs.inner.Runs.{IsHit}
 use Rattle.conflict_analysis.proofs.RunLaws.{none_before}
 use Rattle.conflict_analysis.proofs.walk.last_before.Goals as goal
 

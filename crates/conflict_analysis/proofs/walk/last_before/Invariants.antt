@@ -1,6 +1,6 @@
 use Rattle.std.proofs.Common.{◌≤◌, ◌<◌, ℕ}
 use Rattle.literals.specs.declared.lit.Lit.{Lit}
-use Rattle.conflict_analysis.specs.Runs.{IsHit}
+use Rattle.conflict_analysis.specs.inner.Runs.{IsHit}
 use Rattle.conflict_analysis.proofs.walk.last_before.Given as goal
 
 abbrev pub invariant-loop-place : goal.invariant-loop-place

@@ -1,6 +1,6 @@
 use Rattle.std.proofs.Common.{◌≡◌, ◌↔◌, ◌+◌, ℕ, ℤ, Bool, List, true, false, IsTrue, length, slice_index_or, ap, sym, ◌∙◌, subst, true≢false, rules}
 use Rattle.std.proofs.lemmas.Result.{IfOk-weaker}
-use Rattle.ground_model.specs.Agreement.{IsStableCandidate}
+use Rattle.ground_model.specs.inner.Agreement.{IsStableCandidate}
 use Rattle.ground_model.specs.Answers.{has_atom, IsAnswerOf}
 use Rattle.ground_model.specs.Duties.{IsStableByTests}
 use Rattle.ground_model.specs.World.{world_by}

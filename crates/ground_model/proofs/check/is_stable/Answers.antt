@@ -5,7 +5,7 @@ use Rattle.definite_rules.specs.Rule.{DefiniteRule, IsBelow}
 use Rattle.definite_rules.specs.Least.{IsLeastModel}
 use Rattle.ground_model.specs.declared.rule.GroundRule.{GroundRule}
 use Rattle.ground_model.specs.Reduct.{reduct}
-use Rattle.ground_model.specs.Agreement.{Agree}
+use Rattle.ground_model.specs.inner.Agreement.{Agree}
 use Rattle.ground_model.specs.Duties.{rule_holds, IsStableByTests}
 use Rattle.ground_model.specs.World.{world_by}
 use Rattle.ground_model.proofs.SizeLemmas.{modest_values, reduct_below, readable_rules}

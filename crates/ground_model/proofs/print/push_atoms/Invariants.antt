@@ -1,7 +1,7 @@
 use Rattle.std.proofs.Common.{◌≡◌, ◌++◌, map, reverse, length, vec_len}
 use Rattle.std.specs.List.{AllByRecursion}
 use Rattle.ground_model.specs.Answers.{IsNumbered}
-use Rattle.ground_model.specs.Ordered.{spaced}
+use Rattle.ground_model.specs.inner.Ordered.{spaced}
 use Rattle.ground_model.specs.Printed.{atom_entry}
 use Rattle.ground_model.proofs.print.push_atoms.Given as goal
 

@@ -2,7 +2,7 @@ use Rattle.std.proofs.Common.{◌≡◌, [], filter, length, reverse, ◌∙◌,
 use Rattle.std.specs.List.{AllByRecursion}
 use Rattle.ground_model.specs.declared.program.GroundProgram.{GroundProgram}
 use Rattle.ground_model.specs.Answers.{IsNumbered}
-use Rattle.ground_model.specs.Ordered.{numbers_placed}
+use Rattle.ground_model.specs.inner.Ordered.{numbers_placed}
 use Rattle.ground_model.specs.Printed.{name_of, is_shown}
 use Rattle.ground_model.specs.World.{flagged_from}
 use Rattle.ground_model.proofs.PrintLemmas.{spaced_entries, flagged_numbered}

@@ -1,6 +1,6 @@
 use Rattle.std.proofs.Common.{◌≡◌, ◌+◌, ◌-◌, ◌||◌, ℕ, ◌∷◌, length, refl, ap, ◌∙◌, arith}
 use Rattle.ground_model.specs.Sound.{occurs, first_places}
-use Rattle.ground_parts.specs.Totals.{names, flag_of, set_flags}
+use Rattle.ground_parts.specs.inner.Totals.{names, flag_of, set_flags}
 use Rattle.ground_parts.proofs.FlagSteps.{mark_step}
 use Rattle.ground_parts.proofs.Counted.{counted, none_occurs_with, same_few}
 use Rattle.ground_parts.proofs.places.have_few_with.Goals as goal

@@ -1,6 +1,6 @@
 use Rattle.std.proofs.Common.{◌+◌, ◌^◌, ◌&&◌, ◌-◌, ◌-ℤ◌, length, sym, ◌∙◌, ap, subst, arith}
 use Rattle.ground_model.specs.Sound.{is_small, most, total_constant, first_places}
-use Rattle.ground_parts.specs.Totals.{AllHavePlaces}
+use Rattle.ground_parts.specs.inner.Totals.{AllHavePlaces}
 use Rattle.ground_parts.proofs.SumSteps.{within_more}
 use Rattle.ground_parts.proofs.Counted.{sized_have, sized_constants, zeroed, zeroed_linear, zero_within, relation_difference}
 use Rattle.ground_parts.proofs.relation.differ_little.Goals as goal

@@ -1,6 +1,6 @@
 use Rattle.std.proofs.Common.{◌≡◌, drop}
 use Rattle.ground_model.specs.Sound.{are_sound_rules}
-use Rattle.ground_parts.specs.Totals.{IsClear}
+use Rattle.ground_parts.specs.inner.Totals.{IsClear}
 use Rattle.ground_parts.proofs.rules.are_sound_rules.Given as goal
 
 abbrev pub invariant-loop-rule : goal.invariant-loop-rule

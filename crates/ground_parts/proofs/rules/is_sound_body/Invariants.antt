@@ -1,7 +1,7 @@
 use Rattle.std.proofs.Common.{◌≡◌, drop}
 use Rattle.std.specs.List.{list_all}
 use Rattle.ground_model.specs.Sound.{is_sound_literal}
-use Rattle.ground_parts.specs.Totals.{IsClear}
+use Rattle.ground_parts.specs.inner.Totals.{IsClear}
 use Rattle.ground_parts.proofs.rules.is_sound_body.Given as goal
 
 abbrev pub invariant-loop-literal : goal.invariant-loop-literal

@@ -1,7 +1,7 @@
 use Rattle.std.proofs.Common.{◌≡◌, drop}
 use Rattle.std.specs.List.{AllByRecursion, list_all}
 use Rattle.ground_model.specs.Sound.{is_small_over, first_places}
-use Rattle.ground_parts.specs.Totals.{HasSmallNumbers}
+use Rattle.ground_parts.specs.inner.Totals.{HasSmallNumbers}
 use Rattle.ground_parts.proofs.span.are_small_over.Given as goal
 
 abbrev pub invariant-loop-place : goal.invariant-loop-place

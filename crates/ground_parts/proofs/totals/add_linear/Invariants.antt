@@ -1,6 +1,6 @@
 use Rattle.std.proofs.Common.{◌≡◌, ◌+◌, ◌+ℤ◌, ℕ, drop, length}
 use Rattle.ground_model.specs.Sound.{coefficient}
-use Rattle.ground_parts.specs.Totals.{sum_at, HavePlaces, AreWithin}
+use Rattle.ground_parts.specs.inner.Totals.{sum_at, HavePlaces, AreWithin}
 use Rattle.ground_parts.proofs.totals.add_linear.Given as goal
 
 abbrev pub invariant-loop-variable : goal.invariant-loop-variable

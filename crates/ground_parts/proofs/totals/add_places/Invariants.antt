@@ -2,7 +2,7 @@ use Rattle.std.proofs.Common.{◌≡◌, ◌+ℤ◌, ◌-◌, ◌*◌, ℕ, drop
 use Rattle.std.specs.List.{AllByRecursion}
 use Rattle.ground_model.specs.Sizes.{IsSizedLinear}
 use Rattle.ground_model.specs.Sound.{total_coefficient, first_places}
-use Rattle.ground_parts.specs.Totals.{sum_at, AreWithin}
+use Rattle.ground_parts.specs.inner.Totals.{sum_at, AreWithin}
 use Rattle.ground_parts.proofs.totals.add_places.Given as goal
 
 abbrev pub invariant-loop-place : goal.invariant-loop-place

@@ -1,5 +1,5 @@
 use Rattle.std.proofs.Common.{◌≡◌, drop, length}
-use Rattle.ground_parts.specs.Totals.{pairs_differ_little, HavePlaces}
+use Rattle.ground_parts.specs.inner.Totals.{pairs_differ_little, HavePlaces}
 use Rattle.ground_parts.proofs.totals.linear_differs_little.Given as goal
 
 abbrev pub invariant-loop-variable : goal.invariant-loop-variable

@@ -1,5 +1,5 @@
 use Rattle.std.proofs.Common.{◌≡◌, ◌+◌, ◌||◌, ℕ, drop, length}
-use Rattle.ground_parts.specs.Totals.{names, set_flags, flag_of, HavePlaces}
+use Rattle.ground_parts.specs.inner.Totals.{names, set_flags, flag_of, HavePlaces}
 use Rattle.ground_parts.proofs.totals.mark_linear.Given as goal
 
 abbrev pub invariant-loop-variable : goal.invariant-loop-variable

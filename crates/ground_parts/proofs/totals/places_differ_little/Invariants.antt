@@ -1,5 +1,5 @@
 use Rattle.std.proofs.Common.{◌≡◌, drop, length}
-use Rattle.ground_parts.specs.Totals.{places_differ_little, AllHavePlaces}
+use Rattle.ground_parts.specs.inner.Totals.{places_differ_little, AllHavePlaces}
 use Rattle.ground_parts.proofs.totals.places_differ_little.Given as goal
 
 abbrev pub invariant-loop-place : goal.invariant-loop-place

@@ -1,5 +1,5 @@
 use Rattle.std.proofs.Common.{◌≡◌, ◌&&◌, not, ℕ, drop, length}
-use Rattle.ground_parts.specs.Totals.{names, flag_of, HavePlaces}
+use Rattle.ground_parts.specs.inner.Totals.{names, flag_of, HavePlaces}
 use Rattle.ground_parts.proofs.totals.unmark_linear.Given as goal
 
 abbrev pub invariant-loop-variable : goal.invariant-loop-variable

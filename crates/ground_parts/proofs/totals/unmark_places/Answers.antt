@@ -1,7 +1,7 @@
 use Rattle.std.proofs.Common.{◌≡◌, ◌∷◌, ◌+◌, drop, length, sym, ap, subst, ◌∙◌}
 use Rattle.ground_model.specs.declared.linear.Place.{Place}
 use Rattle.ground_model.proofs.Products.{drop_next}
-use Rattle.ground_parts.specs.Totals.{AllHavePlaces}
+use Rattle.ground_parts.specs.inner.Totals.{AllHavePlaces}
 use Rattle.ground_parts.proofs.FlagSteps.{unmarked_place}
 use Rattle.ground_parts.proofs.totals.unmark_places.Goals as goal
 

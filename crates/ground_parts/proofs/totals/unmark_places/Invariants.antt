@@ -1,6 +1,6 @@
 use Rattle.std.proofs.Common.{◌≡◌, ◌&&◌, not, ℕ, drop, length}
 use Rattle.ground_model.specs.Sound.{occurs, first_places}
-use Rattle.ground_parts.specs.Totals.{flag_of, AllHavePlaces}
+use Rattle.ground_parts.specs.inner.Totals.{flag_of, AllHavePlaces}
 use Rattle.ground_parts.proofs.totals.unmark_places.Given as goal
 
 abbrev pub invariant-loop-place : goal.invariant-loop-place

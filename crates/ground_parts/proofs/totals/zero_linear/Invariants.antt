@@ -1,5 +1,5 @@
 use Rattle.std.proofs.Common.{◌≡◌, ℕ, cond, pos, drop, length}
-use Rattle.ground_parts.specs.Totals.{names, sum_at, HavePlaces}
+use Rattle.ground_parts.specs.inner.Totals.{names, sum_at, HavePlaces}
 use Rattle.ground_parts.proofs.totals.zero_linear.Given as goal
 
 abbrev pub invariant-loop-variable : goal.invariant-loop-variable

@@ -1,6 +1,6 @@
 use Rattle.std.proofs.Common.{◌≡◌, ℕ, cond, pos, drop, length}
 use Rattle.ground_model.specs.Sound.{occurs, first_places}
-use Rattle.ground_parts.specs.Totals.{sum_at, AllHavePlaces}
+use Rattle.ground_parts.specs.inner.Totals.{sum_at, AllHavePlaces}
 use Rattle.ground_parts.proofs.totals.zero_places.Given as goal
 
 abbrev pub invariant-loop-place : goal.invariant-loop-place

@@ -1,5 +1,5 @@
 use Rattle.std.proofs.Common.{length, ◌+ℤ◌, pos, ◌-◌, ◌≤◌}
-use Rattle.lane_kernels.specs.Hits.{AreHits}
+use Rattle.lane_kernels.specs.inner.Hits.{AreHits}
 use Rattle.lane_kernels.proofs.count.count_after.Given as goal
 
 abbrev pub invariant-loop-place : goal.invariant-loop-place

@@ -1,6 +1,6 @@
 use Rattle.std.proofs.Common.{◌+◌, ◌+ℤ◌, pos, SFits, w64, arith, refl}
 use Rattle.std.proofs.lemmas.Int.{to_z-of_z}
-use Rattle.lane_kernels.specs.Hits.{AreHits}
+use Rattle.lane_kernels.specs.inner.Hits.{AreHits}
 use Rattle.lane_kernels.proofs.CountLemmas.{hits_of_twice}
 use Rattle.lane_kernels.proofs.count.hits_of_sixteen.Goals as goal
 

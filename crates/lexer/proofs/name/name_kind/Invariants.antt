@@ -1,5 +1,5 @@
 use Rattle.std.proofs.Common.{◌≡◌, drop}
-use Rattle.lexer.specs.Lexeme.{name_kind}
+use Rattle.lexer.specs.inner.Lexeme.{name_kind}
 use Rattle.lexer.proofs.name.name_kind.Given as goal
 
 abbrev pub invariant-loop-byte : goal.invariant-loop-byte

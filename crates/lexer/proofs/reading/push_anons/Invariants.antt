@@ -1,5 +1,5 @@
 use Rattle.std.proofs.Common.{◌≡◌, ◌++◌}
-use Rattle.lexer.specs.Lexeme.{anon_tokens}
+use Rattle.lexer.specs.inner.Lexeme.{anon_tokens}
 use Rattle.lexer.proofs.reading.push_anons.Given as goal
 
 abbrev pub invariant-loop-index : goal.invariant-loop-index

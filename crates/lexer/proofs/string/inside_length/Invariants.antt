@@ -1,5 +1,5 @@
 use Rattle.std.proofs.Common.{◌≡◌, drop, false}
-use Rattle.lexer.specs.Lexeme.{string_from}
+use Rattle.lexer.specs.inner.Lexeme.{string_from}
 use Rattle.lexer.proofs.string.inside_length.Given as goal
 
 abbrev pub invariant-loop-at : goal.invariant-loop-at

@@ -2,7 +2,7 @@ use Rattle.std.proofs.Common.{◌≡◌, ◌++◌, ◌∷◌, [], ◌+◌, List,
 use Rattle.std.specs.List.{AllByRecursion}
 use Rattle.linear_normal.specs.Contents.{Content, Counted, SomeTrue}
 use Rattle.linear_normal.specs.Numbering.{item_of}
-use Rattle.linear_normal.specs.Tables.{IsSmallItem, Gives, tally_terms}
+use Rattle.linear_normal.specs.inner.Tables.{IsSmallItem, Gives, tally_terms}
 use Rattle.linear_normal.proofs.ChoiceLemmas.{tally_of_row, singles, row_items}
 use Rattle.linear_normal.proofs.GrowthLemmas.{left_next, left_last, one_left, none_left, mapped_next, mapped_last, all_push}
 use Rattle.linear_normal.proofs.choice.add_tallies.Goals as goal

@@ -2,7 +2,7 @@ use Rattle.std.proofs.Common.{◌≡◌, ◌++◌, ◌∷◌, [], pos, map, drop
 use Rattle.std.specs.List.{AllByRecursion}
 use Rattle.linear_normal.specs.Contents.{Counted, SomeTrue}
 use Rattle.linear_normal.specs.Numbering.{item_of}
-use Rattle.linear_normal.specs.Tables.{IsSmallItem}
+use Rattle.linear_normal.specs.inner.Tables.{IsSmallItem}
 use Rattle.linear_normal.proofs.GrowthLemmas.{GivesLeft}
 use Rattle.linear_normal.proofs.choice.add_tallies.Given as goal
 

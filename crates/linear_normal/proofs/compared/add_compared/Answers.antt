@@ -1,5 +1,5 @@
 use Rattle.std.proofs.Common.{◌∙◌, ap, map}
-use Rattle.linear_normal.specs.Tables.{opposite_item}
+use Rattle.linear_normal.specs.inner.Tables.{opposite_item}
 use Rattle.linear_normal.proofs.PartLemmas.{ok_then, less_equal, less, greater_equal, greater, equal, not_equal}
 use Rattle.linear_normal.proofs.WrapLemmas.{same_number, less_number, opposite_number, opposite_less}
 use Rattle.linear_normal.proofs.compared.add_compared.Goals as goal

@@ -1,5 +1,5 @@
 use Rattle.std.proofs.Common.{◌≡◌, ◌++◌, map, drop}
-use Rattle.linear_normal.specs.Tables.{opposite_item}
+use Rattle.linear_normal.specs.inner.Tables.{opposite_item}
 use Rattle.linear_normal.proofs.compared.opposite_items.Given as goal
 
 abbrev pub invariant-loop-item : goal.invariant-loop-item

@@ -1,7 +1,7 @@
 use Rattle.std.proofs.Common.{◌≡◌, ◌<◌, ◌+◌, ◌++◌, ℕ, ℤ, pos, ◌+ℤ◌, List, get_or, length, FitsSigned, to_z, of_z, sym, ◌∙◌, ap, subst, arith}
 use Rattle.std.proofs.lemmas.Int.{to_z-of_z, fits_signed_from_abs}
 use Rattle.std.specs.Int.{w128}
-use Rattle.linear_normal.specs.Sums.{kept_pair}
+use Rattle.linear_normal.specs.inner.Sums.{kept_pair}
 use Rattle.linear_normal.proofs.JoinLemmas.{Joins, joins_start, Turn, turn_add, turn_small, turn_next, turn_at, next_coefficient, joins_last_small, joins_end, at_end}
 use Rattle.linear_normal.proofs.joined.join_sorted.Goals as goal
 use Rattle.linear_normal.proofs.joined.join_sorted.Goals.{then-next-variable, else-next-variable+in_ok-keep}

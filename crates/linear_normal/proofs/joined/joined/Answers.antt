@@ -1,6 +1,6 @@
 use Rattle.std.proofs.Common.{◌≡◌, ℕ, true, ◌+◌, ℤ, List, get_or, IfOk, sym, ◌∙◌, ap, subst, arith}
 use Rattle.ground_model.specs.Sound.{is_small, coefficient}
-use Rattle.linear_normal.specs.Sums.{Climbs, nonzero_pairs}
+use Rattle.linear_normal.specs.inner.Sums.{Climbs, nonzero_pairs}
 use Rattle.linear_normal.proofs.JoinLemmas.{firsts_in_order, climbs_from, coefficient_permuted, sound_permuted, first_above}
 use Rattle.linear_normal.proofs.MovedLemmas.{nonzero_alike}
 use Rattle.linear_normal.proofs.joined.joined.Goals as goal

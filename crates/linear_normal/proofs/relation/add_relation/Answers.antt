@@ -1,5 +1,5 @@
 use Rattle.std.proofs.Common.{◌<◌, ◌^◌, unsigned_abs, ◌∙◌, ap, map, subst, sym}
-use Rattle.linear_normal.specs.Tables.{value_item}
+use Rattle.linear_normal.specs.inner.Tables.{value_item}
 use Rattle.linear_normal.proofs.RelationLemmas.{items_small, constant_small, relation_given}
 use Rattle.linear_normal.proofs.WrapLemmas.{same_number}
 use Rattle.linear_normal.proofs.relation.add_relation.Goals as goal

@@ -1,5 +1,5 @@
 use Rattle.std.proofs.Common.{◌≡◌, ◌++◌, map, drop}
-use Rattle.linear_normal.specs.Tables.{value_item}
+use Rattle.linear_normal.specs.inner.Tables.{value_item}
 use Rattle.linear_normal.proofs.relation.value_items.Given as goal
 
 abbrev pub invariant-loop-pair : goal.invariant-loop-pair

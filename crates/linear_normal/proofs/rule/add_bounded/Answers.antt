@@ -2,7 +2,7 @@ use Rattle.std.proofs.Common.{List, map, vec_items, subst, sym, ◌∙◌, ap, r
 use Rattle.ground_model.specs.declared.rule.ChoiceItem.{ChoiceItem}
 use Rattle.linear_normal.specs.Bodies.{selections}
 use Rattle.linear_normal.specs.Demands.{bounds_of}
-use Rattle.linear_normal.specs.Tables.{HasAtoms}
+use Rattle.linear_normal.specs.inner.Tables.{HasAtoms}
 use Rattle.linear_normal.proofs.RuleLemmas.{rows_are, bounded_given}
 use Rattle.linear_normal.proofs.rule.add_bounded.Goals as goal
 

@@ -1,6 +1,6 @@
 use Rattle.std.proofs.Common.{◌≡◌, ◌++◌, drop}
 use Rattle.ground_model.specs.Sound.{first_places}
-use Rattle.linear_normal.specs.Sums.{pairs_in}
+use Rattle.linear_normal.specs.inner.Sums.{pairs_in}
 use Rattle.linear_normal.proofs.sums.add_places.Given as goal
 
 abbrev pub invariant-loop-place : goal.invariant-loop-place

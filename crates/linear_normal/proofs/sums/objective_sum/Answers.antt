@@ -4,7 +4,7 @@ use Rattle.std.specs.List.{AllByRecursion}
 use Rattle.ground_model.specs.declared.linear.Linear.{Linear}
 use Rattle.ground_model.specs.declared.program.GroundProgram.{GroundProgram}
 use Rattle.ground_model.specs.Sound.{coefficient, total_constant, first_places}
-use Rattle.linear_normal.specs.Sums.{HasSmallNumbers, nonzero_pairs, both_sides}
+use Rattle.linear_normal.specs.inner.Sums.{HasSmallNumbers, nonzero_pairs, both_sides}
 use Rattle.linear_normal.specs.Demands.{moved_pairs}
 use Rattle.linear_normal.proofs.MovedLemmas.{MovesObjective, moves_objective}
 use Rattle.linear_normal.proofs.sums.objective_sum.Goals as goal

@@ -3,7 +3,7 @@ use Rattle.std.specs.List.{AllByRecursion}
 use Rattle.ground_model.specs.declared.linear.Place.{Place}
 use Rattle.ground_model.specs.Sizes.{IsSoundPair}
 use Rattle.ground_model.specs.Sound.{is_small, coefficient, total_constant, first_places}
-use Rattle.linear_normal.specs.Sums.{HasSmallNumbers, nonzero_pairs}
+use Rattle.linear_normal.specs.inner.Sums.{HasSmallNumbers, nonzero_pairs}
 use Rattle.linear_normal.proofs.MovedLemmas.{moves_relation}
 use Rattle.linear_normal.proofs.sums.relation_sum.Goals as goal
 

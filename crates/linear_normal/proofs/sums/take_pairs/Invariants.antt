@@ -1,6 +1,6 @@
 use Rattle.std.proofs.Common.{◌≡◌, ◌++◌, drop, map}
 use Rattle.std.specs.List.{AllByRecursion}
-use Rattle.linear_normal.specs.Sums.{opposite_pair, HasSmallCoefficient}
+use Rattle.linear_normal.specs.inner.Sums.{opposite_pair, HasSmallCoefficient}
 use Rattle.linear_normal.proofs.sums.take_pairs.Given as goal
 
 abbrev pub invariant-loop-variable : goal.invariant-loop-variable

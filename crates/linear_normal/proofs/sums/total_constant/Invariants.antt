@@ -1,7 +1,7 @@
 use Rattle.std.proofs.Common.{◌≡◌, ◌≤◌, ◌^◌, ◌*◌, ◌+ℤ◌, drop, unsigned_abs}
 use Rattle.std.specs.List.{AllByRecursion}
 use Rattle.ground_model.specs.Sound.{total_constant, first_places}
-use Rattle.linear_normal.specs.Sums.{HasSmallNumbers}
+use Rattle.linear_normal.specs.inner.Sums.{HasSmallNumbers}
 use Rattle.linear_normal.proofs.sums.total_constant.Given as goal
 
 abbrev pub invariant-loop-place : goal.invariant-loop-place

@@ -1,5 +1,5 @@
 use Rattle.std.proofs.Common.{◌-◌, ◌≤◌, length}
-use Rattle.order_literals.specs.Rows.{place_in}
+use Rattle.order_literals.specs.inner.Rows.{place_in}
 use Rattle.order_literals.proofs.row.place_of_number.Given as goal
 
 abbrev pub invariant-halve : goal.invariant-halve

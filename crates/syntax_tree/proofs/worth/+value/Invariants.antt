@@ -2,7 +2,7 @@ use Rattle.std.proofs.Common.{◌≡◌, length, map, fold, take, None, []}
 use Rattle.symbols.specs.Table.{IsFront, IsOnce}
 use Rattle.syntax_tree.specs.Outcome.{bound_in}
 use Rattle.syntax_tree.specs.Value.{AreSymbols, with_argument, joined, value_of, part_value}
-use Rattle.syntax_tree.specs.Worth.{outcomes, IsOptionHeld, gathered, AreHeld}
+use Rattle.syntax_tree.specs.inner.Worth.{outcomes, IsOptionHeld, gathered, AreHeld}
 use Rattle.syntax_tree.proofs.worth.+value.Given as goal
 
 abbrev pub invariant-arguments-loop-arg : goal.invariant-arguments-loop-arg

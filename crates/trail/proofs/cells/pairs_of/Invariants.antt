@@ -1,5 +1,5 @@
 use Rattle.std.proofs.Common.{◌≡◌}
-use Rattle.trail.specs.Cells.{end_pairs}
+use Rattle.trail.specs.inner.Cells.{end_pairs}
 use Rattle.trail.proofs.cells.pairs_of.Given as goal
 
 abbrev pub invariant-loop : goal.invariant-loop

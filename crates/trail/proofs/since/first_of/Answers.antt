@@ -1,6 +1,6 @@
 use Rattle.std.proofs.Common.{◌<◌, length, rules, sym}
 use Rattle.trail.specs.Assignment.{lits_of}
-use Rattle.trail.specs.Kept.{entries_of}
+use Rattle.trail.specs.inner.Kept.{entries_of}
 use Rattle.trail.proofs.SinceLaws.{walk_ends, walk_within, walk_misses, walk_on, walk_falls}
 use Rattle.trail.proofs.since.first_of.Goals as goal
 

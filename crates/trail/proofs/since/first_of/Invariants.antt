@@ -1,5 +1,5 @@
 use Rattle.trail.specs.Assignment.{lits_of}
-use Rattle.trail.specs.Kept.{entries_of}
+use Rattle.trail.specs.inner.Kept.{entries_of}
 use Rattle.trail.proofs.SinceLaws.{Walks, steps}
 use Rattle.trail.proofs.since.first_of.Given as goal
 

@@ -1,6 +1,6 @@
 use Rattle.std.proofs.Common.{◌≡◌, ◌+◌, ◌<◌, List, length, get_or, subst, sym, ◌∙◌, ap, rules, arith, FitsSigned, w32}
 use Rattle.order_literals.specs.declared.row.Made.{Made}
-use Rattle.order_literals.specs.Rows.{Ascends, place_in}
+use Rattle.order_literals.specs.inner.Rows.{Ascends, place_in}
 use Rattle.order_literals.proofs.RowLaws.{belongs, above_none, above_hit, above_last, above_after}
 use Rattle.order_literals.proofs.row.Row.above.Goals as goal
 

@@ -1,6 +1,6 @@
 use Rattle.std.proofs.Common.{◌≡◌, ◌-◌, List, get_or, subst, sym, ◌∙◌, rules, arith, FitsSigned, w32}
 use Rattle.order_literals.specs.declared.row.Made.{Made}
-use Rattle.order_literals.specs.Rows.{place_in}
+use Rattle.order_literals.specs.inner.Rows.{place_in}
 use Rattle.order_literals.proofs.RowLaws.{belongs, below_none, below_hit}
 use Rattle.order_literals.proofs.row.Row.below.Goals as goal
 

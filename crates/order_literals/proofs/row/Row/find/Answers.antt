@@ -1,6 +1,6 @@
 use Rattle.std.proofs.Common.{◌≡◌, ◌<◌, List, length, get_or, subst, ◌∙◌, ap, rules, arith, FitsSigned, w32, pos}
 use Rattle.order_literals.specs.declared.row.Made.{Made}
-use Rattle.order_literals.specs.Rows.{Ascends, place_in}
+use Rattle.order_literals.specs.inner.Rows.{Ascends, place_in}
 use Rattle.order_literals.proofs.RowLaws.{belongs, find_end, find_hit, find_miss}
 use Rattle.order_literals.proofs.row.Row.find.Goals as goal
 

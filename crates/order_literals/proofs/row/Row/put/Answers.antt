@@ -1,7 +1,7 @@
 use Rattle.std.proofs.Common.{◌≡◌, List, subst, ◌∙◌, w32, to_z, of_z}
 use Rattle.std.specs.Prelude.{insert}
 use Rattle.order_literals.specs.declared.row.Made.{Made}
-use Rattle.order_literals.specs.Rows.{Ascends, place_in, placed}
+use Rattle.order_literals.specs.inner.Rows.{Ascends, place_in, placed}
 use Rattle.order_literals.proofs.RowLaws.{belongs, insert_at, ascends_placed}
 use Rattle.order_literals.proofs.row.Row.put.Goals as goal
 

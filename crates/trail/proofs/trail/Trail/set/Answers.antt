@@ -3,7 +3,7 @@ use Rattle.std.proofs.lemmas.Int.{to_z-of_z}
 use Rattle.trail.specs.declared.shape.Shape.{Shape}
 use Rattle.trail.specs.Implied.{truth_of}
 use Rattle.trail.specs.Assignment.{Assignment, Names, truth_on, lits_of}
-use Rattle.trail.specs.Kept.{entries_of}
+use Rattle.trail.specs.inner.Kept.{entries_of}
 use Rattle.trail.proofs.CellLaws.{truth-shown}
 use Rattle.trail.proofs.KeptLaws.{trail_set, view_pushed}
 use Rattle.trail.proofs.trail.Trail.set.Goals as goal

@@ -1,5 +1,5 @@
 use Rattle.std.proofs.Common.{[], subst, sym}
-use Rattle.trail.specs.Kept.{AreMarked}
+use Rattle.trail.specs.inner.Kept.{AreMarked}
 use Rattle.trail.proofs.SinceLaws.{marked}
 use Rattle.trail.proofs.trail.Trail.since.Goals as goal
 

@@ -1,7 +1,7 @@
 use Rattle.std.proofs.Common.{ap, subst, sym, ◌∙◌}
 use Rattle.trail.specs.declared.shape.Shape.{Shape}
 use Rattle.trail.specs.Assignment.{Assignment, IsOf, truth_on, lits_of}
-use Rattle.trail.specs.Kept.{entries_of}
+use Rattle.trail.specs.inner.Kept.{entries_of}
 use Rattle.trail.proofs.CellLaws.{truth-shown}
 use Rattle.trail.proofs.trail.Trail.truth.Goals as goal
 

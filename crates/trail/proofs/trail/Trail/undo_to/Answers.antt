@@ -1,7 +1,7 @@
 use Rattle.std.proofs.Common.{List, [], nat_le, ap, subst, sym, ◌∙◌}
 use Rattle.std.specs.List.{filter}
 use Rattle.trail.specs.declared.entry.Slot.{Slot}
-use Rattle.trail.specs.Kept.{IsTrail, entries_of}
+use Rattle.trail.specs.inner.Kept.{IsTrail, entries_of}
 use Rattle.trail.proofs.KeptLaws.{last_place, trail_pop, trail_cut, filter_last, filter_all, follow_cut, undone}
 use Rattle.trail.proofs.trail.Trail.undo_to.Goals as goal
 

@@ -1,6 +1,6 @@
 use Rattle.std.proofs.Common.{◌≡◌, nat_le, vec_len}
 use Rattle.std.specs.List.{filter}
-use Rattle.trail.specs.Kept.{IsTrail, entries_of}
+use Rattle.trail.specs.inner.Kept.{IsTrail, entries_of}
 use Rattle.trail.proofs.trail.Trail.undo_to.Given as goal
 
 abbrev pub invariant-undo : goal.invariant-undo

@@ -12,7 +12,7 @@ use Rattle.trail.specs.declared.entry.Entry.{Entry}
 use Rattle.trail.specs.declared.entry.Slot.{Slot}
 use Rattle.trail.specs.Implied.{truth_of, lower_of, upper_of}
 use Rattle.trail.specs.Assignment.{lits_of, IsOf, counts_of, Follow}
-use Rattle.trail.specs.Cells.{Layout, is_fact, slot_of, upper_in, lower_in, mark_in}
+use Rattle.trail.specs.inner.Cells.{Layout, is_fact, slot_of, upper_in, lower_in, mark_in}
 
 -- the place of the last of these at the literal's place in a nogood, where the list begins at this place and this one was the last before
 abbrev pub last_from : ℕ → Option ℕ → List Lit → Lit → Option ℕ

@@ -2,7 +2,7 @@
 use Rattle.std.specs.Prelude.{ℕ, zero, suc, List, [], ◌∷◌, length, Ok}
 use Rattle.grammar.specs.Reading.{Reader, and_then, expected}
 use Rattle.grammar.specs.StatementReading.{statement_at}
-use Rattle.grammar.specs.Text.{TextAt}
+use Rattle.grammar.specs.inner.Text.{TextAt}
 
 module _ {A : Type 0} (item : Reader A) where
   -- items up to the end of the words; the number bounds them

@@ -24,7 +24,7 @@ use Rattle.linear_normal.specs.declared.numbered.Duty.{Duty}
 use Rattle.linear_normal.specs.Bodies.{bodies_in}
 use Rattle.linear_normal.specs.Contents.{Term, Variable, Counted, Content, SumAtMost, SumEquals, SumDiffers, SomeTrue, opposite, compared, parts_of, same_content}
 use Rattle.linear_normal.specs.Demands.{bound_content, with_content, with_parts, number_of}
-use Rattle.linear_normal.specs.Sums.{IsSoundOver}
+use Rattle.linear_normal.specs.inner.Sums.{IsSoundOver}
 use Rattle.linear_normal.specs.Numbering.{item_of, constraint_of, lit_of, conjunction_of, head_duties}
 
 -- the list has the content
