@@ -6,7 +6,7 @@ use Rattle.std.proofs.lemmas.Map.Steps.{length-le_from_distinct_below}
 use Rattle.linear_normal.specs.declared.constraint.Item.{Item}
 use Rattle.linear_normal.specs.declared.constraint.Item.TheVariants.{Value, Truth}
 use Rattle.numbering_laws.specs.Items.{are_items, same_counted}
-use Rattle.sum_propagator.specs.Sides.{counted_number}
+use Rattle.trail_bounds.specs.Items.{counted_number}
 use Rattle.sum_propagator.proofs.Forcing.{NoRepeat, once_rec}
 
 -- the variables that items count, and the constraints

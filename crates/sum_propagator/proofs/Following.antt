@@ -20,10 +20,11 @@ use Rattle.trail.specs.Assignment.{Assignment, IsAssignment, lits_of, truth_on}
 use Rattle.sum_propagator.specs.declared.sum.Totals.{Totals}
 use Rattle.sum_propagator.specs.declared.moves.Move.{Move}
 use Rattle.numbering_laws.specs.Items.{are_items}
-use Rattle.sum_propagator.specs.Sums.{bounds_on}
-use Rattle.sum_propagator.specs.Sides.{coefficient_of}
+use Rattle.trail_bounds.specs.OnTrail.{bounds_on}
+use Rattle.trail_bounds.specs.Items.{coefficient_of}
 use Rattle.sum_propagator.specs.Moves.{front, key_in, AreRising, AreCoefficients, move_of, moves_least, step_by, AreTotals, MovesItem, Lacks, IsMoved}
-use Rattle.sum_propagator.proofs.Forcing.{bounds_with, touches, once_rec}
+use Rattle.trail_bounds.proofs.Following.{bounds_with, touches}
+use Rattle.sum_propagator.proofs.Forcing.{once_rec}
 use Rattle.sum_propagator.proofs.Moving.{front_assignment, front-next, front_open, no_item, Moves, moves_so, at_other, at_item, totals_small}
 
 -- what the entry at a place is to the entries before it

@@ -1,5 +1,3 @@
-mod Times
-mod Ranges
 mod Backing
 mod Validity
 mod Narrowing

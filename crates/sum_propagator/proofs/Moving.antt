@@ -25,14 +25,18 @@ use Rattle.sum_propagator.specs.declared.sum.Totals.{Totals}
 use Rattle.sum_propagator.specs.declared.moves.Move.{Move}
 use Rattle.propagator_core.specs.Standing.{StandsFor}
 use Rattle.numbering_laws.specs.Items.{same_counted}
-use Rattle.sum_propagator.specs.Sums.{bounds_on, totals_after}
-use Rattle.sum_propagator.specs.Sides.{coefficient_of, low_in, high_in, InRange, side_least, side_sum, AreSmall}
+use Rattle.sum_propagator.specs.Sums.{totals_after}
+use Rattle.trail_bounds.specs.OnTrail.{bounds_on}
+use Rattle.trail_bounds.specs.Items.{coefficient_of, low_in, high_in}
+use Rattle.trail_bounds.specs.inner.Ranges.{InRange}
+use Rattle.trail_bounds.specs.Sides.{side_least, side_sum}
+use Rattle.sum_propagator.specs.Sides.{AreSmall}
 use Rattle.sum_propagator.specs.Moves.{front, key_in, bit, bound_move, move_of, moves_least, step_by, AreTotals, AreCoefficients}
-use Rattle.sum_propagator.proofs.Times.{product_small}
-use Rattle.sum_propagator.proofs.Ranges.{implied-least, implied-most, low-named, high-named, least-named, greatest-named, range_is}
-use Rattle.sum_propagator.proofs.Backing.{item_least, item_greatest, item_opposite}
-use Rattle.sum_propagator.proofs.Validity.{side-true, side-false}
-use Rattle.sum_propagator.proofs.Forcing.{bounds_with, touches, NoRepeat, not_both, none_after, other_item, other_items}
+use Rattle.trail_bounds.proofs.Times.{product_small}
+use Rattle.trail_bounds.proofs.Ranges.{implied-least, implied-most, low-named, high-named, least-named, greatest-named, range_is}
+use Rattle.trail_bounds.proofs.ItemSums.{item_least, item_greatest, item_opposite, side-true, side-false}
+use Rattle.trail_bounds.proofs.Following.{bounds_with, touches, other_item, other_items}
+use Rattle.sum_propagator.proofs.Forcing.{NoRepeat, not_both, none_after}
 
 -- THE FIRST ENTRIES ALONE
 

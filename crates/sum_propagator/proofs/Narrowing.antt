@@ -1,236 +1,64 @@
 -- A literal that an item needs is open, and its opposite makes the sum exceed its limit; what stays as the trail grows.
-use Rattle.std.proofs.Common.{◌≡◌, ℕ, suc, ◌+◌, ◌<◌, Bool, true, false, ◌||◌, IsTrue, refl, sym, ◌∙◌, ap, subst, arith, List, [], ◌∷◌, length, get_or, Option, None, Some, IfSome, IfNone, ℤ, pos, ◌+ℤ◌, ◌-ℤ◌, ◌≤ℤ◌, ◌<ℤ◌, ◌⊎◌, inl, inr}
-use Rattle.std.specs.Prelude.{int_le}
-use Rattle.std.specs.List.{AllByRecursion, All, Contains, list_any, list_all}
+use Rattle.std.proofs.Common.{◌≡◌, ℕ, ◌+◌, ◌<◌, Bool, true, false, IsTrue, refl, sym, ◌∙◌, ap, subst, arith, List, [], ◌∷◌, length, get_or, ℤ, pos, ◌+ℤ◌, ◌≤ℤ◌, ◌<ℤ◌, ◌⊎◌, inl, inr}
+use Rattle.std.specs.List.{AllByRecursion, All, list_all}
 use Rattle.std.proofs.lemmas.Bool.Decides.{nat_tests}
 use Rattle.std.proofs.lemmas.Int.{ints}
-use Rattle.std.proofs.lemmas.List.{length-append}
-use Rattle.std.proofs.lemmas.List.Elements.{All-from_recursion, All-contains}
+use Rattle.std.proofs.lemmas.List.Elements.{All-from_recursion}
 use Rattle.literals.specs.declared.lit.Lit.{Lit}
 use Rattle.literals.specs.declared.lit.Lit.TheVariants.{Constraint}
 use Rattle.literals.specs.declared.reason.Reason.{Reason}
-use Rattle.literals.specs.Lits.{implies_lit, complement_of}
+use Rattle.literals.specs.Lits.{complement_of}
 use Rattle.linear_normal.specs.declared.constraint.Item.{Item}
-use Rattle.linear_normal.specs.declared.constraint.Item.TheVariants.{Value, Truth}
-use Rattle.linear_normal.specs.Bounds.{bounds_named, least_times, greatest_times}
+use Rattle.linear_normal.specs.Bounds.{bounds_named}
 use Rattle.trail.specs.declared.shape.Shape.{Shape}
 use Rattle.trail.specs.declared.entry.Entry.{Entry}
 use Rattle.trail.specs.declared.entry.Why.TheVariants.{Shown}
-use Rattle.trail.specs.declared.entry.Placed.{Placed}
-use Rattle.trail.specs.declared.entry.Placed.TheVariants.{Already, Clash, Done}
-use Rattle.trail.specs.Implied.{implied, ends_imply}
-use Rattle.trail.specs.Assignment.{Assignment, IsAssignment, Names, lits_of, is_true_on, truth_on, entry_of, Places}
+use Rattle.trail.specs.Assignment.{Assignment, Names, lits_of, is_true_on, entry_of}
 use Rattle.trail.specs.Growth.{Grows}
-use Rattle.trail.specs.Forced.{OthersTrueOn, Forces}
-use Rattle.trail.proofs.ImpliedLaws.{implied_trans, open_is, truth-of}
-use Rattle.trail.proofs.AssignmentLaws.{true-truth, truth-true}
-use Rattle.trail.proofs.GrowthLaws.{grows_set, grows_same, grows_shape, grows_length, grows_true}
+use Rattle.trail.proofs.ImpliedLaws.{open_is}
+use Rattle.trail.proofs.GrowthLaws.{grows_same, grows_shape, grows_length}
 use Rattle.propagator_core.specs.Shown.{IsShown}
-use Rattle.sum_propagator.specs.Sums.{is_item_of, fits_sum, valid_sum, bounds_on}
-use Rattle.sum_propagator.specs.Sides.{coefficient_of, low_in, high_in, at_least, at_most, InRange, signed_by, limit_of, side_least, side_sum, Rests, Lowers, Raises, Narrows}
-use Rattle.sum_propagator.specs.Reasons.{IsOrTrue, IsNeeded, Explains}
-use Rattle.sum_propagator.proofs.Ranges.{SaysLeast, SaysMost, implied-least, implied-most, range_is, Says}
-use Rattle.sum_propagator.proofs.Backing.{least_names, most_names, sum_beyond, sum_says, each_as}
+use Rattle.trail_bounds.specs.OnTrail.{is_item_of, bounds_on}
+use Rattle.sum_propagator.specs.Sums.{fits_sum, valid_sum}
+use Rattle.trail_bounds.specs.Sides.{side_least, side_sum, Rests}
+use Rattle.sum_propagator.specs.Sides.{limit_of}
+use Rattle.trail_bounds.specs.inner.Lists.{IsOrTrue}
+use Rattle.trail_bounds.specs.Needing.{IsNeeded}
+use Rattle.sum_propagator.specs.Reasons.{Explains}
+use Rattle.trail_bounds.proofs.Backs.{each_as}
+use Rattle.sum_propagator.proofs.Backing.{sum_beyond}
 use Rattle.sum_propagator.proofs.Validity.{valid_by, spelled}
-
-most_opposite : (i : Item) (k : ℤ) → complement_of (at_most i k) ≡ at_least i (k +ℤ pos 1)
-most_opposite (Value x c) k = refl
-most_opposite (Truth n c) k = refl
-
-least_opposite_lit : (i : Item) (k : ℤ) → complement_of (at_least i k) ≡ at_most i (k -ℤ pos 1)
-least_opposite_lit (Value x c) k = refl
-least_opposite_lit (Truth n c) k = refl
-
--- numbers within the range
-inner_most : (i : Item) (low high k : ℤ) → InRange i low → InRange i high → low ≤ℤ k → k <ℤ high → InRange i k × InRange i (k +ℤ pos 1) × SaysMost i k × SaysLeast i (k +ℤ pos 1)
-inner_most (Value x c) low high k a b h g = (
-  (let a0 = a.0 in omega (arith, ints, a0, h), let b1 = b.1 in omega (arith, ints, b1, g)),
-  (let a0 = a.0 in omega (arith, ints, a0, h), let b1 = b.1 in omega (arith, ints, b1, g)),
-  refl,
-  refl,
-)
-inner_most (Truth n c) low high k a b h g =
-    let a0 = a.0 in
-    let b1 = b.1 in (
-      (omega (arith, ints, a0, h), omega (arith, ints, b1, g)),
-      (omega (arith, ints, a0, h), omega (arith, ints, b1, g)),
-      omega (arith, ints, a0, b1, h, g),
-      omega (arith, ints, a0, b1, h, g),
-    )
-
-inner_least : (i : Item) (low high k : ℤ) → InRange i low → InRange i high → low <ℤ k → k ≤ℤ high → InRange i k × InRange i (k -ℤ pos 1) × SaysLeast i k × SaysMost i (k -ℤ pos 1)
-inner_least (Value x c) low high k a b h g = (
-  (let a0 = a.0 in omega (arith, ints, a0, h), let b1 = b.1 in omega (arith, ints, b1, g)),
-  (let a0 = a.0 in omega (arith, ints, a0, h), let b1 = b.1 in omega (arith, ints, b1, g)),
-  refl,
-  refl,
-)
-inner_least (Truth n c) low high k a b h g =
-    let a0 = a.0 in
-    let b1 = b.1 in (
-      (omega (arith, ints, a0, h), omega (arith, ints, b1, g)),
-      (omega (arith, ints, a0, h), omega (arith, ints, b1, g)),
-      omega (arith, ints, a0, b1, h, g),
-      omega (arith, ints, a0, b1, h, g),
-    )
-
-le_not : (a b : ℤ) → b <ℤ a → int_le a b ≡ false
-le_not a b h = grind (arith, nat_tests, ints)
-
-le_true : (a b : ℤ) → int_le a b ≡ true → a ≤ℤ b
-le_true a b h = grind (arith, nat_tests, ints)
-
-next_not : (k low : ℤ) → low ≤ℤ k → int_le (k +ℤ pos 1) low ≡ false
-next_not k low h = grind (arith, nat_tests, ints)
-
-before_not : (k high : ℤ) → k ≤ℤ high → int_le high (k -ℤ pos 1) ≡ false
-before_not k high h = grind (arith, nat_tests, ints)
-
-lowers_narrow : (t : Assignment) (side : Bool) (i : Item) (slack : ℕ) (l : Lit) → IsAssignment t → IsTrue (is_item_of t.shape i) → Lowers i (signed_by side (coefficient_of i)) slack (low_in (bounds_on t) i) (high_in (bounds_on t) i) l → IsNeeded t side i slack l
-lowers_narrow t side i slack l h n w =
-    let r = range_is t i h in
-    let k : ℤ = w.bound in
-    let m = inner_most i (low_in (bounds_on t) i) (high_in (bounds_on t) i) w.bound r.0 r.1 w.above w.below in
-    let no : implied t.shape.ends (lits_of t.entries) (at_most i w.bound) ≡ false = implied-most t.shape.ends (lits_of t.entries) i w.bound m.2 ∙ le_not (high_in (bounds_on t) i) w.bound w.below in
-    let never : implied t.shape.ends (lits_of t.entries) (complement_of (at_most i w.bound)) ≡ false =
-    ap (implied t.shape.ends (lits_of t.entries)) (most_opposite i w.bound) ∙ implied-least t.shape.ends (lits_of t.entries) i (w.bound +ℤ pos 1) m.3 ∙ next_not w.bound (low_in (bounds_on t) i) w.above
-    in
-    subst (λ (q : Lit). IsNeeded t side i slack q) (sym w.is) (record {
-      names = most_names t.shape i w.bound n m.0;
-      opposite = subst (Names t.shape) (sym (most_opposite i w.bound)) (least_names t.shape i (w.bound +ℤ pos 1) n m.1);
-      is_open = truth-of t.shape.ends (lits_of t.entries) (at_most i w.bound) false false no never;
-      beyond = λ ms f. w.beyond (low_in (bounds_named t.shape.ends ms) i) (high_in (bounds_named t.shape.ends ms) i)
-          (le_true (w.bound +ℤ pos 1) (low_in (bounds_named t.shape.ends ms) i) (sym (implied-least t.shape.ends ms i (w.bound +ℤ pos 1) m.3) ∙ ap (implied t.shape.ends ms) (sym (most_opposite i w.bound)) ∙ f));
-    })
-
-raises_narrow : (t : Assignment) (side : Bool) (i : Item) (slack : ℕ) (l : Lit) → IsAssignment t → IsTrue (is_item_of t.shape i) → Raises i (signed_by side (coefficient_of i)) slack (low_in (bounds_on t) i) (high_in (bounds_on t) i) l → IsNeeded t side i slack l
-raises_narrow t side i slack l h n w =
-    let r = range_is t i h in
-    let m = inner_least i (low_in (bounds_on t) i) (high_in (bounds_on t) i) w.bound r.0 r.1 w.above w.below in
-    let no : implied t.shape.ends (lits_of t.entries) (at_least i w.bound) ≡ false = implied-least t.shape.ends (lits_of t.entries) i w.bound m.2 ∙ le_not w.bound (low_in (bounds_on t) i) w.above in
-    let never : implied t.shape.ends (lits_of t.entries) (complement_of (at_least i w.bound)) ≡ false =
-    ap (implied t.shape.ends (lits_of t.entries)) (least_opposite_lit i w.bound) ∙ implied-most t.shape.ends (lits_of t.entries) i (w.bound -ℤ pos 1) m.3 ∙ before_not w.bound (high_in (bounds_on t) i) w.below
-    in
-    subst (λ (q : Lit). IsNeeded t side i slack q) (sym w.is) (record {
-      names = least_names t.shape i w.bound n m.0;
-      opposite = subst (Names t.shape) (sym (least_opposite_lit i w.bound)) (most_names t.shape i (w.bound -ℤ pos 1) n m.1);
-      is_open = truth-of t.shape.ends (lits_of t.entries) (at_least i w.bound) false false no never;
-      beyond = λ ms f. w.beyond (low_in (bounds_named t.shape.ends ms) i) (high_in (bounds_named t.shape.ends ms) i)
-          (le_true (high_in (bounds_named t.shape.ends ms) i) (w.bound -ℤ pos 1) (sym (implied-most t.shape.ends ms i (w.bound -ℤ pos 1) m.3) ∙ ap (implied t.shape.ends ms) (sym (least_opposite_lit i w.bound)) ∙ f));
-    })
-
-narrows_at : (t : Assignment) (side : Bool) (i : Item) (slack : ℕ) (l : Lit) → IsAssignment t → IsTrue (is_item_of t.shape i) → Narrows i (signed_by side (coefficient_of i)) slack (low_in (bounds_on t) i) (high_in (bounds_on t) i) l → IsNeeded t side i slack l
-narrows_at t side i slack l h n (inl w) = lowers_narrow t side i slack l h n w
-narrows_at t side i slack l h n (inr w) = raises_narrow t side i slack l h n w
-
-pub narrow_is : (t : Assignment) (side : Bool) (i : Item) (slack : ℕ) (l : Lit) (c from to : ℤ) → IsAssignment t → IsTrue (is_item_of t.shape i) → c ≡ signed_by side (coefficient_of i) → from ≡ low_in (bounds_on t) i → to ≡ high_in (bounds_on t) i → Narrows i c slack from to l → IsNeeded t side i slack l
-narrow_is t side i slack l c from to h n e f g w =
-    narrows_at t side i slack l h n
-    (subst (λ (k : ℤ). Narrows i (signed_by side (coefficient_of i)) slack (low_in (bounds_on t) i) k l) g
-    (subst (λ (k : ℤ). Narrows i (signed_by side (coefficient_of i)) slack k to l) f
-    (subst (λ (k : ℤ). Narrows i k slack from to l) e w)))
-
-pub rests_is : (t : Assignment) (side : Bool) (i : Item) (slack : ℕ) (c low high : ℤ) → c ≡ signed_by side (coefficient_of i) → low ≡ low_in (bounds_on t) i → high ≡ high_in (bounds_on t) i → greatest_times c low high ≤ℤ (least_times c low high +ℤ pos slack) → Rests side (bounds_on t) slack i
-rests_is t side i slack c low high e f g h =
-    subst (λ (k : ℤ). greatest_times (signed_by side (coefficient_of i)) (low_in (bounds_on t) i) k ≤ℤ (least_times (signed_by side (coefficient_of i)) (low_in (bounds_on t) i) k +ℤ pos slack)) g
-    (subst (λ (k : ℤ). greatest_times (signed_by side (coefficient_of i)) k high ≤ℤ (least_times (signed_by side (coefficient_of i)) k high +ℤ pos slack)) f
-    (subst (λ (k : ℤ). greatest_times k low high ≤ℤ (least_times k low high +ℤ pos slack)) e h))
+use Rattle.trail_bounds.proofs.Needing.{forces_by}
 
 -- FORCING
-
--- in a list whose literals are this one or true, this one is if it follows and is not true
-pub in_list : (t : Assignment) (instead : Lit) (ls : List Lit) → is_true_on t instead ≡ false → list_any (λ m. implies_lit m instead) ls ≡ true → AllByRecursion (IsOrTrue t instead) ls → Contains ls instead
-in_list t instead [] never f a = absurd (let no : false ≡ true = f in cc)
-in_list t instead (l ∷ ls) never f a = cases (implies_lit l instead) refl f a.0 (λ g. in_list t instead ls never g a.1)
-  where
-    head : Contains (l ∷ ls) l
-    head = (0, omega arith, refl)
-
-    tail : Contains ls instead → Contains (l ∷ ls) instead
-    tail c = (suc c.0, (let lt = c.1 in omega (arith, lt)), c.2)
-
-    cases : (b : Bool) → implies_lit l instead ≡ b → (b || list_any (λ m. implies_lit m instead) ls) ≡ true → IsOrTrue t instead l → (list_any (λ m. implies_lit m instead) ls ≡ true → Contains ls instead) → Contains (l ∷ ls) instead
-    cases true e f (inl same) g = subst (λ (m : Lit). Contains (l ∷ ls) m) same head
-    cases true e f (inr on) g = absurd (let now : is_true_on t instead ≡ true = implied_trans t.shape.ends (lits_of t.entries) l instead e on in let no : true ≡ false = sym now ∙ never in cc)
-    cases false e f o g = tail (g f)
-
-pub others_true : (t : Assignment) (instead : Lit) (ls : List Lit) → AllByRecursion (IsOrTrue t instead) ls → OthersTrueOn t ls instead
-others_true t instead ls a l c = All-contains (IsOrTrue t instead) ls l (All-from_recursion (IsOrTrue t instead) ls a) c
 
 -- a literal of the reason is the other one or true, where the constraint is true on this side or is that one
 or_true : (t : Assignment) (on instead : Lit) → IsOrTrue t instead on → (m : Lit) → (m ≡ on) ⊎ IsOrTrue t instead m → IsOrTrue t instead m
 or_true t on instead h m (inl e) = subst (IsOrTrue t instead) (sym e) h
 or_true t on instead h m (inr o) = o
 
-pub reason_or_true : (t : Assignment) (number : ℕ) (items : List Item) (side : Bool) (but : ℕ) (instead : Lit) (r : Reason) → IsOrTrue t instead (Constraint number side) → Explains t number items side but instead r → AllByRecursion (IsOrTrue t instead) r.nogood
-reason_or_true t number items side but instead r h x = each_as (λ l. (l ≡ Constraint number side) ⊎ IsOrTrue t instead l) (IsOrTrue t instead) r.nogood (or_true t (Constraint number side) instead h) x.each
-
-not_ends : (t : Assignment) (l : Lit) → is_true_on t l ≡ false → ends_imply t.shape.ends l ≡ false
-not_ends t l h = cases (ends_imply t.shape.ends l) (list_any (λ m. implies_lit m l) (lits_of t.entries)) h
-  where
-    cases : (a b : Bool) → (a || b) ≡ false → a ≡ false
-    cases true b h = h
-    cases false b h = refl
-
-by_list : (t : Assignment) (l : Lit) (ls : List Lit) → is_true_on t l ≡ false → implied t.shape.ends ls l ≡ true → list_any (λ m. implies_lit m l) ls ≡ true
-by_list t l ls never h = cases (ends_imply t.shape.ends l) (list_any (λ m. implies_lit m l) ls) (not_ends t l never) h
-  where
-    cases : (a b : Bool) → a ≡ false → (a || b) ≡ true → b ≡ true
-    cases true b e h = let no : true ≡ false = e in cc
-    cases false b e h = h
-
-pub forces_by : (t : Assignment) (r : Reason) (l : Lit) → is_true_on t (complement_of l) ≡ false → implied t.shape.ends r.nogood (complement_of l) ≡ true → AllByRecursion (IsOrTrue t (complement_of l)) r.nogood → Forces t r.nogood l
-forces_by t r l never has each = record {
-  opposite = in_list t (complement_of l) r.nogood never (by_list t (complement_of l) r.nogood never has) each;
-  others = others_true t (complement_of l) r.nogood each;
-}
+pub reason_or_true : (t : Assignment) (number : ℕ) (items : List Item) (side : Bool) (but : ℕ) (instead : Lit) (slack : ℕ) (r : Reason) → IsOrTrue t instead (Constraint number side) → Explains t number items side but instead slack r → AllByRecursion (IsOrTrue t instead) r.nogood
+reason_or_true t number items side but instead slack r h x = each_as (λ l. (l ≡ Constraint number side) ⊎ IsOrTrue t instead l) (IsOrTrue t instead) r.nogood (or_true t (Constraint number side) instead h) x.each
 
 beyond_limit : (m x y : ℤ) (s : ℕ) → m ≤ℤ (x +ℤ pos s) → (x +ℤ pos s) <ℤ y → m <ℤ y
 beyond_limit m x y s h g = omega (arith, ints, h, g)
 
--- the literal that the item at this place needs is shown by its reason
-pub press_shown : (t : Assignment) (number : ℕ) (items : List Item) (most : ℤ) (side : Bool) (at slack : ℕ) (i : Item) (l : Lit) (r : Reason) → is_true_on t (Constraint number side) ≡ true → at < length items → ((d : Item) → get_or items at d ≡ i) → limit_of side most ≤ℤ (side_sum side (bounds_on t) items +ℤ pos slack) → IsNeeded t side i slack l → Explains t number items side at (complement_of l) r → IsShown (valid_sum number items most) t (entry_of t l (Shown r))
-press_shown t number items most side at slack i l r on lt is limit w x =
+-- the literal that the item at this place needs is shown by its reason, which gives away no more than is spared
+pub press_shown : (t : Assignment) (number : ℕ) (items : List Item) (most : ℤ) (side : Bool) (at slack spare : ℕ) (i : Item) (l : Lit) (r : Reason) → is_true_on t (Constraint number side) ≡ true → at < length items → ((d : Item) → get_or items at d ≡ i) → limit_of side most ≤ℤ (side_sum side (bounds_on t) items +ℤ pos slack) → IsNeeded t side i (slack + spare) l → Explains t number items side at (complement_of l) spare r → IsShown (valid_sum number items most) t (entry_of t l (Shown r))
+press_shown t number items most side at slack spare i l r on lt is limit w x =
     let never : is_true_on t (complement_of l) ≡ false = (open_is t.shape.ends (lits_of t.entries) l w.is_open).1 in
     record {
       reason = r;
       why = refl;
       is_valid = valid_by number items most t.shape r side x.names x.step x.listed
           (beyond_limit (limit_of side most) (side_sum side (bounds_on t) items) (side_sum side (bounds_named t.shape.ends r.nogood) items) slack limit
-          (sum_beyond side (bounds_on t) (bounds_named t.shape.ends r.nogood) items at slack x.covers lt
-          (λ d. subst (λ (j : Item). (side_least side (bounds_on t) j +ℤ pos slack) <ℤ side_least side (bounds_named t.shape.ends r.nogood) j) (sym (is d)) (w.beyond r.nogood (x.has lt)))));
-      spelled = spelled t number items side at (complement_of l) r x;
-      forces = forces_by t r l never (x.has lt) (reason_or_true t number items side at (complement_of l) r (inr on) x);
+          (sum_beyond side (bounds_on t) (bounds_named t.shape.ends r.nogood) items at slack spare i x.covers lt
+          (subst (λ (j : Item). (side_least side (bounds_on t) j +ℤ pos (slack + spare)) <ℤ side_least side (bounds_named t.shape.ends r.nogood) j) (sym (is i)) (w.beyond r.nogood (x.has lt)))));
+      spelled = spelled t number items side at (complement_of l) spare r x;
+      forces = forces_by t r l never (x.has lt) (reason_or_true t number items side at (complement_of l) spare r (inr on) x);
     }
 
-pub grows_placed : (P : Assignment → Entry → Type 0) (t new : Assignment) (l : Lit) (r : Reason) (p : Placed) → Names t.shape l → Places t l (Shown r) p new → truth_on t l ≡ None → P t (entry_of t l (Shown r)) → Grows P t new
-grows_placed P t new l r Already n h e s = absurd (let no : Some true ≡ None = sym h.0 ∙ e in cc)
-grows_placed P t new l r Clash n h e s = absurd (let no : Some false ≡ None = sym h.0 ∙ e in cc)
-grows_placed P t new l r Done n h e s = grows_set P t new l (Shown r) n h s
-
-pub placed_longer : (t new : Assignment) (l : Lit) (r : Reason) (p : Placed) → Places t l (Shown r) p new → truth_on t l ≡ None → length t.entries < length new.entries
-placed_longer t new l r Already h e = absurd (let no : Some true ≡ None = sym h.0 ∙ e in cc)
-placed_longer t new l r Clash h e = absurd (let no : Some false ≡ None = sym h.0 ∙ e in cc)
-placed_longer t new l r Done h e = omega (arith, ap (λ (u : Assignment). length u.entries) h.1, length-append t.entries (entry_of t l (Shown r) ∷ []))
-
 -- AS THE TRAIL GROWS
-
-pub grows_says : (P : Assignment → Entry → Type 0) (a b : Assignment) → Grows P a b → Says a.shape.ends (lits_of a.entries) (lits_of b.entries)
-grows_says P a b g l h = subst (λ (s : Shape). implied s.ends (lits_of b.entries) l ≡ true) (grows_shape P a b g) (grows_true P a b l g h)
-
-pub sum_grows : (P : Assignment → Entry → Type 0) (side : Bool) (a b : Assignment) (items : List Item) → Grows P a b → side_sum side (bounds_on a) items ≤ℤ side_sum side (bounds_on b) items
-sum_grows P side a b items g =
-    subst (λ (s : Shape). side_sum side (bounds_on a) items ≤ℤ side_sum side (bounds_named s.ends (lits_of b.entries)) items) (sym (grows_shape P a b g))
-    (sum_says side a.shape.ends (lits_of a.entries) (lits_of b.entries) items (grows_says P a b g))
-
-pub slack_grows : (P : Assignment → Entry → Type 0) (side : Bool) (a b : Assignment) (items : List Item) (limit : ℤ) (slack : ℕ) → Grows P a b → limit ≤ℤ (side_sum side (bounds_on a) items +ℤ pos slack) → limit ≤ℤ (side_sum side (bounds_on b) items +ℤ pos slack)
-slack_grows P side a b items limit slack g h = more (side_sum side (bounds_on a) items) (side_sum side (bounds_on b) items) (sum_grows P side a b items g) h
-  where
-    more : (x y : ℤ) → x ≤ℤ y → limit ≤ℤ (x +ℤ pos slack) → limit ≤ℤ (y +ℤ pos slack)
-    more x y e h = omega (arith, ints, e, h)
-
-pub on_grows : (P : Assignment → Entry → Type 0) (a b : Assignment) (l : Lit) → Grows P a b → truth_on a l ≡ Some true → truth_on b l ≡ Some true
-on_grows P a b l g h = truth-true b l (grows_true P a b l g (true-truth a l h))
 
 pub fits_grows : (P : Assignment → Entry → Type 0) (a b : Assignment) (number : ℕ) (items : List Item) → Grows P a b → IsTrue (fits_sum number items a.shape) → IsTrue (fits_sum number items b.shape)
 fits_grows P a b number items g h = subst (λ (s : Shape). IsTrue (fits_sum number items s)) (sym (grows_shape P a b g)) h
@@ -269,14 +97,3 @@ number_of s number items side h = record { literal = grind (arith, nat_tests); w
 
 pub item_at : (s : Shape) (number : ℕ) (items : List Item) (at : ℕ) (i : Item) → IsTrue (fits_sum number items s) → at < length items → ((d : Item) → get_or items at d ≡ i) → IsTrue (is_item_of s i)
 item_at s number items at i h lt is = subst (λ (j : Item). IsTrue (is_item_of s j)) (is i) (items_of s number items h at i lt)
-
-pub placed_grew : (t new : Assignment) (l : Lit) (r : Reason) (p : Placed) → Places t l (Shown r) p new → truth_on t l ≡ None → new ≡ t → ⊥
-placed_grew t new l r p h e same = let more = placed_longer t new l r p h e in let one : length new.entries ≡ length t.entries = ap (λ (u : Assignment). length u.entries) same in omega (arith, more, one)
-
-pub rests_from : (t : Assignment) (side : Bool) (i : Item) (slack : ℕ) (c low high : ℤ) (r : Option Lit) → c ≡ signed_by side (coefficient_of i) → low ≡ low_in (bounds_on t) i → high ≡ high_in (bounds_on t) i → IfNone r (greatest_times c low high ≤ℤ (least_times c low high +ℤ pos slack)) → IfNone r (Rests side (bounds_on t) slack i)
-rests_from t side i slack c low high None e f g h = rests_is t side i slack c low high e f g h
-rests_from t side i slack c low high (Some l) e f g h = tt
-
-pub need_from : (t : Assignment) (side : Bool) (i : Item) (slack : ℕ) (c low high : ℤ) (r : Option Lit) → IsAssignment t → IsTrue (is_item_of t.shape i) → c ≡ signed_by side (coefficient_of i) → low ≡ low_in (bounds_on t) i → high ≡ high_in (bounds_on t) i → IfSome r (λ l. Narrows i c slack low high l) → IfSome r (λ l. IsNeeded t side i slack l)
-need_from t side i slack c low high None h n e f g w = tt
-need_from t side i slack c low high (Some l) h n e f g w = narrow_is t side i slack l c low high h n e f g w

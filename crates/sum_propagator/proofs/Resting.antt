@@ -15,11 +15,12 @@ use Rattle.propagator_core.specs.declared.touch.Touch.TheVariants as touch
 use Rattle.propagator_core.specs.Touching.{SameOf, SameOfAll}
 use Rattle.propagator_core.specs.Quiet.{IsQuiet, IsSteady}
 use Rattle.numbering_laws.specs.Items.{are_items}
-use Rattle.sum_propagator.specs.Sums.{fits_sum, sum_meaning, bounds_on, touch_of, touches_of, is_below, is_above, is_consistent, rests_sum}
-use Rattle.sum_propagator.specs.Sides.{limit_of, side_least, side_greatest, side_sum, Rests}
-use Rattle.sum_propagator.proofs.Ranges.{on_low, on_high, least-named, greatest-named}
-use Rattle.sum_propagator.proofs.Backing.{item_least, item_greatest, item_opposite}
-use Rattle.sum_propagator.proofs.Validity.{side-true, side-false}
+use Rattle.sum_propagator.specs.Sums.{fits_sum, sum_meaning, touch_of, touches_of, is_below, is_above, is_consistent, rests_sum}
+use Rattle.trail_bounds.specs.OnTrail.{bounds_on}
+use Rattle.sum_propagator.specs.Sides.{limit_of}
+use Rattle.trail_bounds.specs.Sides.{side_least, side_greatest, side_sum, Rests}
+use Rattle.trail_bounds.proofs.Ranges.{on_low, on_high, least-named, greatest-named}
+use Rattle.trail_bounds.proofs.ItemSums.{item_least, item_greatest, item_opposite, side-true, side-false}
 use Rattle.sum_propagator.proofs.Widths.{greatest_turned}
 use Rattle.sum_propagator.proofs.Settling.{quiet_here, quiet_open}
 

@@ -30,30 +30,38 @@ use Rattle.propagator_core.specs.Shown.{IsShown, IsConflict}
 use Rattle.propagator_core.specs.Quiet.{IsDecided, IsQuiet}
 use Rattle.sum_propagator.specs.declared.sum.Totals.{Totals}
 use Rattle.numbering_laws.specs.Items.{are_items, counts_truth}
-use Rattle.sum_propagator.specs.Sums.{is_item_of, fits_sum, valid_sum, settled_sum, sum_meaning, bounds_on, totals_after}
-use Rattle.sum_propagator.specs.Sides.{low_in, high_in, limit_of, side_sum, Rests}
-use Rattle.sum_propagator.specs.Reasons.{IsOrTrue, Explains}
-use Rattle.sum_propagator.proofs.Ranges.{on_low, on_high, least-named, greatest-named}
-use Rattle.sum_propagator.proofs.Backing.{sum_covers, sum_says, each_as}
-use Rattle.sum_propagator.proofs.Validity.{valid_by, valid_cases, spelled, Excludes, side-true, side-false}
-use Rattle.sum_propagator.proofs.Narrowing.{reason_or_true, forces_by, grows_placed, items_of}
-use Rattle.sum_propagator.proofs.Forcing.{with_lit, bounds_with, follow_says, says_with, other_items, own_off, once_rec, one_lit, rests_rec}
+use Rattle.sum_propagator.specs.Sums.{fits_sum, valid_sum, settled_sum, sum_meaning, totals_after}
+use Rattle.trail_bounds.specs.OnTrail.{is_item_of, bounds_on}
+use Rattle.trail_bounds.specs.Items.{low_in, high_in}
+use Rattle.sum_propagator.specs.Sides.{limit_of}
+use Rattle.trail_bounds.specs.Sides.{side_sum, Rests}
+use Rattle.trail_bounds.specs.inner.Lists.{IsOrTrue}
+use Rattle.sum_propagator.specs.Reasons.{Explains}
+use Rattle.trail_bounds.proofs.Ranges.{on_low, on_high, least-named, greatest-named}
+use Rattle.sum_propagator.proofs.Backing.{sum_covers}
+use Rattle.trail_bounds.proofs.ItemSums.{sum_says, side-true, side-false}
+use Rattle.trail_bounds.proofs.Backs.{each_as}
+use Rattle.sum_propagator.proofs.Validity.{valid_by, valid_cases, spelled, Excludes}
+use Rattle.sum_propagator.proofs.Narrowing.{reason_or_true, items_of}
+use Rattle.trail_bounds.proofs.Needing.{forces_by, grows_placed}
+use Rattle.trail_bounds.proofs.Following.{with_lit, bounds_with, follow_says, says_with, other_items}
+use Rattle.sum_propagator.proofs.Forcing.{own_off, once_rec, one_lit, rests_rec}
 
-above : (m x y : ℤ) → m <ℤ x → x ≤ℤ y → m <ℤ y
-above m x y h g = omega (arith, ints, h, g)
+above : (m x y : ℤ) (s : ℕ) → (m +ℤ pos s) <ℤ x → x ≤ℤ (y +ℤ pos s) → m <ℤ y
+above m x y s h g = omega (arith, ints, h, g)
 
-excluded : (t : Assignment) (number : ℕ) (items : List Item) (most : ℤ) (side : Bool) (r : Reason) → Explains t number items side (length items) (Constraint number side) r → limit_of side most <ℤ side_sum side (bounds_on t) items → IsTrue (valid_sum number items most t.shape r)
-excluded t number items most side r x h =
+excluded : (t : Assignment) (number : ℕ) (items : List Item) (most : ℤ) (side : Bool) (slack : ℕ) (r : Reason) → Explains t number items side (length items) (Constraint number side) slack r → (limit_of side most +ℤ pos slack) <ℤ side_sum side (bounds_on t) items → IsTrue (valid_sum number items most t.shape r)
+excluded t number items most side slack r x h =
     valid_by number items most t.shape r side x.names x.step x.listed
-    (above (limit_of side most) (side_sum side (bounds_on t) items) (side_sum side (bounds_named t.shape.ends r.nogood) items) h (sum_covers side (bounds_on t) (bounds_named t.shape.ends r.nogood) items x.covers))
+    (above (limit_of side most) (side_sum side (bounds_on t) items) (side_sum side (bounds_named t.shape.ends r.nogood) items) slack h (sum_covers side (bounds_on t) (bounds_named t.shape.ends r.nogood) items slack x.covers))
 
 -- a sum that is true on a side and beyond its limit is in conflict
-pub conflict_here : (t : Assignment) (number : ℕ) (items : List Item) (most : ℤ) (side : Bool) (r : Reason) → truth_on t (Constraint number side) ≡ Some true → limit_of side most <ℤ side_sum side (bounds_on t) items → Explains t number items side (length items) (Constraint number side) r → IsConflict (valid_sum number items most) t r
-conflict_here t number items most side r on h x = record {
-  is_valid = excluded t number items most side r x h;
-  spelled = spelled t number items side (length items) (Constraint number side) r x;
+pub conflict_here : (t : Assignment) (number : ℕ) (items : List Item) (most : ℤ) (side : Bool) (slack : ℕ) (r : Reason) → truth_on t (Constraint number side) ≡ Some true → (limit_of side most +ℤ pos slack) <ℤ side_sum side (bounds_on t) items → Explains t number items side (length items) (Constraint number side) slack r → IsConflict (valid_sum number items most) t r
+conflict_here t number items most side slack r on h x = record {
+  is_valid = excluded t number items most side slack r x h;
+  spelled = spelled t number items side (length items) (Constraint number side) slack r x;
   all_true = λ l c. All-contains (λ m. is_true_on t m ≡ true) r.nogood l (All-from_recursion (λ m. is_true_on t m ≡ true) r.nogood
-      (each_as (IsOrTrue t (Constraint number side)) (λ m. is_true_on t m ≡ true) r.nogood one (reason_or_true t number items side (length items) (Constraint number side) r (inl refl) x))) c;
+      (each_as (IsOrTrue t (Constraint number side)) (λ m. is_true_on t m ≡ true) r.nogood one (reason_or_true t number items side (length items) (Constraint number side) slack r (inl refl) x))) c;
 }
   where
     one : (m : Lit) → IsOrTrue t (Constraint number side) m → is_true_on t m ≡ true
@@ -74,18 +82,18 @@ open_side t n true h = h
 open_side t n false h = truth-of t.shape.ends (lits_of t.entries) (Constraint n false) false false (both_open t n false h) (both_open t n true h)
 
 -- the constraint set to the other side, shown by what excludes this one
-pub settle_shown : (t new : Assignment) (number : ℕ) (items : List Item) (most : ℤ) (side : Bool) (r : Reason) (p : Placed) → Names t.shape (Constraint number (not side)) → truth_on t (Constraint number true) ≡ None → limit_of side most <ℤ side_sum side (bounds_on t) items → Explains t number items side (length items) (Constraint number side) r → Places t (Constraint number (not side)) (Shown r) p new → Grows (IsShown (valid_sum number items most)) t new
-settle_shown t new number items most side r p n un h x places =
+pub settle_shown : (t new : Assignment) (number : ℕ) (items : List Item) (most : ℤ) (side : Bool) (slack : ℕ) (r : Reason) (p : Placed) → Names t.shape (Constraint number (not side)) → truth_on t (Constraint number true) ≡ None → (limit_of side most +ℤ pos slack) <ℤ side_sum side (bounds_on t) items → Explains t number items side (length items) (Constraint number side) slack r → Places t (Constraint number (not side)) (Shown r) p new → Grows (IsShown (valid_sum number items most)) t new
+settle_shown t new number items most side slack r p n un h x places =
     let back = twice number side in
     grows_placed (IsShown (valid_sum number items most)) t new (Constraint number (not side)) r p n places (open_side t number (not side) un) (record {
       reason = r;
       why = refl;
-      is_valid = excluded t number items most side r x h;
-      spelled = spelled t number items side (length items) (Constraint number side) r x;
+      is_valid = excluded t number items most side slack r x h;
+      spelled = spelled t number items side (length items) (Constraint number side) slack r x;
       forces = forces_by t r (Constraint number (not side))
           (ap (is_true_on t) back ∙ both_open t number side un)
           (ap (implied t.shape.ends r.nogood) back ∙ x.listed)
-          (subst (λ (l : Lit). AllByRecursion (IsOrTrue t l) r.nogood) (sym back) (reason_or_true t number items side (length items) (Constraint number side) r (inl refl) x));
+          (subst (λ (l : Lit). AllByRecursion (IsOrTrue t l) r.nogood) (sym back) (reason_or_true t number items side (length items) (Constraint number side) slack r (inl refl) x));
     })
 
 -- NOTHING LEFT TO SAY
@@ -307,11 +315,8 @@ total_kept items ends (x ∷ xs) kept totals z s f g = s (omega arith) ∙ ap So
     same : (totals : Totals) → totals.least ≡ least_sum (bounds_named ends (lits_of (x ∷ xs))) items → totals.greatest ≡ greatest_sum (bounds_named ends (lits_of (x ∷ xs))) items → totals ≡ record { least = least_sum (bounds_named ends (lits_of (x ∷ xs))) items; greatest = greatest_sum (bounds_named ends (lits_of (x ∷ xs))) items }
     same totals f g = rw (← f, ← g) refl
 
-pub above_here : (m k x y : ℤ) → k ≡ m → x ≡ y → k <ℤ x → m <ℤ y
-above_here m k x y e f h = omega (arith, ints, e, f, h)
-
 pub sum_is : (m k x y : ℤ) (s : ℕ) → k ≡ m → x ≡ y → (x +ℤ pos s) ≡ k → (y +ℤ pos s) ≡ m
 sum_is m k x y s e f h = omega (arith, ints, e, f, h)
 
-pub slack_is : (m k x y : ℤ) (s : ℕ) → k ≡ m → x ≡ y → (x +ℤ pos s) ≡ k → m ≤ℤ (y +ℤ pos s)
-slack_is m k x y s e f h = omega (arith, ints, e, f, h)
+pub excess_is : (m k x y : ℤ) (s : ℕ) → k ≡ m → x ≡ y → (k +ℤ pos s) <ℤ x → (m +ℤ pos s) <ℤ y
+excess_is m k x y s e f h = omega (arith, ints, e, f, h)

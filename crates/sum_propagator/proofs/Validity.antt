@@ -1,46 +1,36 @@
 -- When a reason of a sum is valid, and when it forces.
-use Rattle.std.proofs.Common.{◌≡◌, ℕ, ◌==◌, Bool, true, false, cond, ◌&&◌, ◌||◌, IsTrue, refl, sym, ◌∙◌, ap, subst, arith, List, [], ◌∷◌, length, ℤ, pos, neg_ℤ, ◌+ℤ◌, ◌-ℤ◌, ◌≤ℤ◌, ◌<ℤ◌, ◌⊎◌, inl, inr}
+use Rattle.std.proofs.Common.{◌≡◌, ℕ, ◌==◌, Bool, true, false, ◌&&◌, ◌||◌, IsTrue, refl, sym, ◌∙◌, ap, subst, arith, List, [], ◌∷◌, length, ℤ, pos, neg_ℤ, ◌+ℤ◌, ◌-ℤ◌, ◌≤ℤ◌, ◌<ℤ◌, ◌⊎◌, inl, inr}
 use Rattle.std.specs.Prelude.{int_le, int_lt}
-use Rattle.std.specs.List.{AllByRecursion, list_any, list_all}
+use Rattle.std.specs.List.{AllByRecursion, list_all}
 use Rattle.std.proofs.lemmas.Bool.Decides.{nat_tests}
 use Rattle.std.proofs.lemmas.Int.{ints}
-use Rattle.symbols.specs.declared.ends.Ends.{Ends}
 use Rattle.literals.specs.declared.lit.Lit.{Lit}
-use Rattle.literals.specs.declared.lit.Lit.TheVariants.{Atom, Body, Constraint, AtMost, AtLeast}
+use Rattle.literals.specs.declared.lit.Lit.TheVariants.{Constraint}
 use Rattle.literals.specs.declared.reason.Reason.{Reason}
 use Rattle.literals.specs.declared.reason.Step.TheVariants.{Sum}
 use Rattle.literals.specs.Steps.{IsStep}
-use Rattle.literals.specs.Lits.{implies_lit, same_lit}
-use Rattle.literals.specs.Nogoods.{Rises, has_lit, canonical, joined, put_lit, is_before, same_place, stronger}
-use Rattle.literals.proofs.OrderLaws.{implies_trans, implies_other}
-use Rattle.literals.proofs.LitLaws.{implies_refl}
+use Rattle.literals.specs.Nogoods.{Rises, has_lit, canonical}
 use Rattle.literals.proofs.Puts.{all_joined, rises_joined}
 use Rattle.linear_normal.specs.declared.constraint.Item.{Item}
-use Rattle.linear_normal.specs.Bounds.{Bounds, bounds_named, greatest_item, least_sum, greatest_sum}
+use Rattle.linear_normal.specs.Bounds.{Bounds, bounds_named, least_sum, greatest_sum}
 use Rattle.trail.specs.declared.shape.Shape.{Shape}
-use Rattle.trail.specs.Implied.{ends_imply, implied}
+use Rattle.trail.specs.Implied.{implied}
 use Rattle.trail.specs.Assignment.{Assignment, Names}
 use Rattle.propagator_core.specs.Shown.{IsSpelled}
-use Rattle.sum_propagator.specs.Sums.{is_of, is_step_of, valid_sum}
-use Rattle.sum_propagator.specs.Sides.{limit_of, total_of, side_least, side_sum}
-use Rattle.sum_propagator.specs.Reasons.{Follow, IsOrTrue, Backs, Explains}
-use Rattle.sum_propagator.proofs.Backing.{each_as, item_least, item_opposite}
+use Rattle.trail_bounds.specs.OnTrail.{is_of}
+use Rattle.sum_propagator.specs.Sums.{is_step_of, valid_sum}
+use Rattle.sum_propagator.specs.Sides.{limit_of, total_of}
+use Rattle.trail_bounds.specs.Sides.{side_sum}
+use Rattle.trail_bounds.specs.Backing.{Follow}
+use Rattle.trail_bounds.specs.inner.Lists.{IsOrTrue}
+use Rattle.sum_propagator.specs.Reasons.{sum_but, Backs, Explains}
+use Rattle.trail_bounds.specs.OnTrail.{bounds_on}
+use Rattle.std.proofs.lemmas.List.{take_all}
+use Rattle.trail_bounds.proofs.Backs.{each_as}
+use Rattle.trail_bounds.proofs.ItemSums.{side-true, side-false}
+use Rattle.trail_bounds.proofs.Gathering.{all_of, has_from, joined_follow}
 
 -- THE OPPOSITE SUM
-
-pub side-true : (b : Bounds) (items : List Item) → side_sum true b items ≡ least_sum b items
-side-true b [] = refl
-side-true b (i ∷ is) = add (item_least b i) (side-true b is)
-  where
-    add : {x y u v : ℤ} → x ≡ y → u ≡ v → x +ℤ u ≡ y +ℤ v
-    add e f = rw (e, f) refl
-
-pub side-false : (b : Bounds) (items : List Item) → side_sum false b items ≡ neg_ℤ (greatest_sum b items)
-side-false b [] = refl
-side-false b (i ∷ is) = add (side_least false b i) (greatest_item b i) (side_sum false b is) (greatest_sum b is) (item_opposite b i) (side-false b is)
-  where
-    add : (x y u v : ℤ) → x ≡ neg_ℤ y → u ≡ neg_ℤ v → x +ℤ u ≡ neg_ℤ (y +ℤ v)
-    add x y u v e f = omega (arith, ints, e, f)
 
 pub side-total : (side : Bool) (b : Bounds) (items : List Item) (least greatest : ℤ) → least ≡ least_sum b items → greatest ≡ greatest_sum b items → total_of side least greatest ≡ side_sum side b items
 side-total true b items least greatest e f = e ∙ sym (side-true b items)
@@ -51,42 +41,6 @@ side-total false b items least greatest e f = ap neg_ℤ f ∙ sym (side-false b
 -- the list has the constraint on this side, and by its bounds the sum is beyond the limit
 abbrev pub Excludes : ℕ → List Item → ℤ → Shape → Reason → Bool → Type 0
 Excludes number items most s r side = (has_lit r.nogood (Constraint number side) ≡ true) × (limit_of side most <ℤ side_sum side (bounds_named s.ends r.nogood) items)
-
-is_of_names : (s : Shape) (l : Lit) → Names s l → is_of s l ≡ true
-is_of_names s (Atom n r) h = let a = h.literal in let b = h.within in grind (arith, nat_tests)
-is_of_names s (Body n r) h = let a = h.literal in let b = h.within in grind (arith, nat_tests)
-is_of_names s (Constraint n r) h = let a = h.literal in let b = h.within in grind (arith, nat_tests)
-is_of_names s (AtMost x k) h = let a = h.literal.0 in let b = h.within in grind (arith, nat_tests)
-is_of_names s (AtLeast x k) h = let a = h.literal.0 in let b = h.within in grind (arith, nat_tests)
-
-all_of : (s : Shape) (ls : List Lit) → AllByRecursion (Names s) ls → list_all (is_of s) ls ≡ true
-all_of s [] a = refl
-all_of s (l ∷ ls) a = rw (is_of_names s l a.0) (all_of s ls a.1)
-
-same_here : (n : ℕ) (s : Bool) (m : Lit) → implies_lit m (Constraint n s) ≡ true → same_lit m (Constraint n s) ≡ true
-same_here n s (Atom o q) h = cc
-same_here n s (Body o q) h = cc
-same_here n s (Constraint o q) h = signs s q h
-  where
-    signs : (s q : Bool) → implies_lit (Constraint o q) (Constraint n s) ≡ true → same_lit (Constraint o q) (Constraint n s) ≡ true
-    signs true true h = grind (arith, nat_tests)
-    signs false false h = grind (arith, nat_tests)
-    signs true false h = grind (arith, nat_tests)
-    signs false true h = grind (arith, nat_tests)
-same_here n s (AtMost o q) h = cc
-same_here n s (AtLeast o q) h = cc
-
-pub has_from : (n : ℕ) (s : Bool) (ls : List Lit) → list_any (λ m. implies_lit m (Constraint n s)) ls ≡ true → has_lit ls (Constraint n s) ≡ true
-has_from n s [] h = h
-has_from n s (l ∷ ls) h = cases (implies_lit l (Constraint n s)) refl h (has_from n s ls)
-  where
-    cases : (b : Bool) → implies_lit l (Constraint n s) ≡ b → (b || list_any (λ m. implies_lit m (Constraint n s)) ls) ≡ true → (list_any (λ m. implies_lit m (Constraint n s)) ls ≡ true → has_lit ls (Constraint n s) ≡ true) → has_lit (l ∷ ls) (Constraint n s) ≡ true
-    cases true e f g = rw (same_here n s l e) refl
-    cases false e f g = or_right (same_lit l (Constraint n s)) (has_lit ls (Constraint n s)) (g f)
-      where
-        or_right : (a b : Bool) → b ≡ true → (a || b) ≡ true
-        or_right true b h = refl
-        or_right false b h = h
 
 valid_true : (number : ℕ) (items : List Item) (most : ℤ) (s : Shape) (r : Reason) (step : Bool) → list_all (is_of s) r.nogood ≡ true → is_step_of number r.step ≡ true → Excludes number items most s r true → IsTrue (valid_sum number items most s r)
 valid_true number items most s r step a b x =
@@ -143,60 +97,9 @@ valid_cases number items most s r h =
 
 -- CANONICAL LISTS: each literal that was put in follows from one that is there
 
-stronger_left : (x y l : Lit) → same_place x y ≡ true → implies_lit x l ≡ true → implies_lit (stronger x y) l ≡ true
-stronger_left x y l s h = cases (implies_lit x y) refl
-  where
-    cases : (b : Bool) → implies_lit x y ≡ b → implies_lit (cond b x y) l ≡ true
-    cases true e = h
-    cases false e = implies_trans y x l (implies_other x y s e) h
-
-stronger_right : (x y l : Lit) → implies_lit y l ≡ true → implies_lit (stronger x y) l ≡ true
-stronger_right x y l h = cases (implies_lit x y) refl
-  where
-    cases : (b : Bool) → implies_lit x y ≡ b → implies_lit (cond b x y) l ≡ true
-    cases true e = implies_trans x y l e h
-    cases false e = h
-
-or_right : (a b : Bool) → b ≡ true → (a || b) ≡ true
-or_right true b h = refl
-or_right false b h = h
-
-or_left : (a b : Bool) → a ≡ true → (a || b) ≡ true
-or_left a b h = rw h refl
-
-or_map : (a b c d : Bool) → (a ≡ true → c ≡ true) → (b ≡ true → d ≡ true) → (a || b) ≡ true → (c || d) ≡ true
-or_map true b c d f g h = or_left c d (f refl)
-or_map false b c d f g h = or_right c d (g h)
-
-put_keeps : (l x : Lit) (ls : List Lit) → list_any (λ m. implies_lit m l) ls ≡ true → list_any (λ m. implies_lit m l) (put_lit ls x) ≡ true
-put_keeps l x [] h = or_right (implies_lit x l) false h
-put_keeps l x (y ∷ ys) h = cases (is_before y x) (same_place y x) refl h (put_keeps l x ys)
-  where
-    cases : (b s : Bool) → same_place y x ≡ s → (implies_lit y l || list_any (λ m. implies_lit m l) ys) ≡ true → (list_any (λ m. implies_lit m l) ys ≡ true → list_any (λ m. implies_lit m l) (put_lit ys x) ≡ true) → list_any (λ m. implies_lit m l) (cond b (y ∷ put_lit ys x) (cond s (stronger y x ∷ ys) (x ∷ y ∷ ys))) ≡ true
-    cases true s e f g = or_map (implies_lit y l) (list_any (λ m. implies_lit m l) ys) (implies_lit y l) (list_any (λ m. implies_lit m l) (put_lit ys x)) (λ z. z) g f
-    cases false true e f g = or_map (implies_lit y l) (list_any (λ m. implies_lit m l) ys) (implies_lit (stronger y x) l) (list_any (λ m. implies_lit m l) ys) (stronger_left y x l e) (λ z. z) f
-    cases false false e f g = or_right (implies_lit x l) (implies_lit y l || list_any (λ m. implies_lit m l) ys) f
-
-put_gives : (x : Lit) (ls : List Lit) → list_any (λ m. implies_lit m x) (put_lit ls x) ≡ true
-put_gives x [] = or_left (implies_lit x x) false (implies_refl x)
-put_gives x (y ∷ ys) = cases (is_before y x) (same_place y x) (put_gives x ys)
-  where
-    cases : (b s : Bool) → list_any (λ m. implies_lit m x) (put_lit ys x) ≡ true → list_any (λ m. implies_lit m x) (cond b (y ∷ put_lit ys x) (cond s (stronger y x ∷ ys) (x ∷ y ∷ ys))) ≡ true
-    cases true s g = or_right (implies_lit y x) (list_any (λ m. implies_lit m x) (put_lit ys x)) g
-    cases false true g = or_left (implies_lit (stronger y x) x) (list_any (λ m. implies_lit m x) ys) (stronger_right y x x (implies_refl x))
-    cases false false g = or_left (implies_lit x x) (implies_lit y x || list_any (λ m. implies_lit m x) ys) (implies_refl x)
-
-joined_keeps : (l : Lit) (ls more : List Lit) → list_any (λ m. implies_lit m l) ls ≡ true → list_any (λ m. implies_lit m l) (joined ls more) ≡ true
-joined_keeps l ls [] h = h
-joined_keeps l ls (x ∷ xs) h = joined_keeps l (put_lit ls x) xs (put_keeps l x ls h)
-
-pub joined_follow : (ends : Ends) (ls more : List Lit) → Follow ends (joined ls more) more
-joined_follow ends ls [] = tt
-joined_follow ends ls (x ∷ xs) = (or_right (ends_imply ends x) (list_any (λ m. implies_lit m x) (joined (put_lit ls x) xs)) (joined_keeps x (put_lit ls x) xs (put_gives x ls)), joined_follow ends (put_lit ls x) xs)
-
 -- what was gathered explains
-pub explains : (t : Assignment) (number : ℕ) (items : List Item) (side : Bool) (but : ℕ) (instead : Lit) (lits : List Lit) (r : Reason) → Names t.shape (Constraint number side) → Backs t side items but instead (length items) (Constraint number side ∷ []) lits → r.nogood ≡ canonical lits → r.step ≡ Sum number → Explains t number items side but instead r
-explains t number items side but instead lits r n b e step =
+pub explains : (t : Assignment) (number : ℕ) (items : List Item) (side : Bool) (but : ℕ) (instead : Lit) (slack left : ℕ) (lits : List Lit) (r : Reason) → Names t.shape (Constraint number side) → Backs t side items but instead slack left (length items) (Constraint number side ∷ []) lits → r.nogood ≡ canonical lits → r.step ≡ Sum number → Explains t number items side but instead slack r
+explains t number items side but instead slack left lits r n b e step =
     let all : List Lit = Constraint number side ∷ b.more in
     let same : r.nogood ≡ canonical (Constraint number side ∷ b.more) = e ∙ ap canonical b.added in
     let f = subst (λ (ls : List Lit). Follow t.shape.ends ls (Constraint number side ∷ b.more)) (sym same) (joined_follow t.shape.ends [] (Constraint number side ∷ b.more)) in
@@ -206,12 +109,15 @@ explains t number items side but instead lits r n b e step =
       names = subst (λ (ls : List Lit). AllByRecursion (Names t.shape) ls) (sym same) (all_joined (Names t.shape) [] (Constraint number side ∷ b.more) tt (n, b.names));
       listed = f.0;
       has = λ lt. b.has r.nogood f.1 lt;
-      covers = b.covers r.nogood f.1;
+      covers = whole (subst (λ (xs : List Item). (sum_but side (bounds_on t) xs but +ℤ pos left) ≤ℤ (sum_but side (bounds_named t.shape.ends r.nogood) xs but +ℤ pos slack)) (take_all (length items) items (omega arith)) (b.covers r.nogood f.1));
       each = subst (λ (ls : List Lit). AllByRecursion (λ l. (l ≡ Constraint number side) ⊎ IsOrTrue t instead l) ls) (sym same)
           (all_joined (λ l. (l ≡ Constraint number side) ⊎ IsOrTrue t instead l) [] (Constraint number side ∷ b.more) tt
           (inl refl, each_as (IsOrTrue t instead) (λ l. (l ≡ Constraint number side) ⊎ IsOrTrue t instead l) b.more (λ m o. inr o) b.each));
     }
+  where
+    whole : {x y : ℤ} → (x +ℤ pos left) ≤ℤ y → x ≤ℤ y
+    whole h = omega (arith, ints, h)
 
 -- and a line can tell it
-pub spelled : (t : Assignment) (number : ℕ) (items : List Item) (side : Bool) (but : ℕ) (instead : Lit) (r : Reason) → Explains t number items side but instead r → IsSpelled t.shape r
-spelled t number items side but instead r x = record { rises = x.rises; named = x.names; step = subst IsStep (sym x.step) tt }
+pub spelled : (t : Assignment) (number : ℕ) (items : List Item) (side : Bool) (but : ℕ) (instead : Lit) (slack : ℕ) (r : Reason) → Explains t number items side but instead slack r → IsSpelled t.shape r
+spelled t number items side but instead slack r x = record { rises = x.rises; named = x.names; step = subst IsStep (sym x.step) tt }

@@ -16,12 +16,14 @@ use Rattle.trail.proofs.ImpliedLaws.{implied_stays}
 use Rattle.propagator_core.specs.Standing.{StandsFor}
 use Rattle.propagator_core.proofs.SeveralLaws.{stands_on}
 use Rattle.sum_propagator.specs.declared.sum.Totals.{Totals}
-use Rattle.sum_propagator.specs.Sums.{bounds_on, totals_after, IsWithin, AreWithin, StandsAt}
-use Rattle.sum_propagator.specs.Sides.{coefficient_of, low_in, high_in, signed_by, side_least, side_greatest, Rests}
-use Rattle.sum_propagator.proofs.Times.{least_opposite}
-use Rattle.sum_propagator.proofs.Ranges.{Says}
+use Rattle.trail_bounds.specs.OnTrail.{bounds_on}
+use Rattle.sum_propagator.specs.Sums.{totals_after, IsWithin, AreWithin, StandsAt}
+use Rattle.trail_bounds.specs.Items.{coefficient_of, low_in, high_in}
+use Rattle.trail_bounds.specs.Sides.{signed_by, side_least, side_greatest, Rests}
+use Rattle.trail_bounds.proofs.Times.{least_opposite}
+use Rattle.trail_bounds.proofs.Ranges.{Says}
 use Rattle.sum_propagator.proofs.Settling.{total_kept}
-use Rattle.sum_propagator.proofs.Backing.{one_least, one_greatest, item_least, item_greatest, item_opposite, item_says}
+use Rattle.trail_bounds.proofs.ItemSums.{one_least, one_greatest, item_least, item_greatest, item_opposite, item_says}
 
 more : (x y : ℤ) (w v : ℕ) → w ≤ v → x ≤ℤ (y +ℤ pos w) → x ≤ℤ (y +ℤ pos v)
 more x y w v h g = omega (arith, ints, h, g)

@@ -7,8 +7,9 @@ use Rattle.linear_normal.specs.declared.constraint.Item.{Item}
 use Rattle.linear_normal.specs.declared.constraint.Item.TheVariants.{Value, Truth}
 use Rattle.linear_normal.specs.Bounds.{least_sum, greatest_sum}
 use Rattle.trail.specs.Assignment.{Assignment}
-use Rattle.sum_propagator.specs.Sums.{bounds_on}
-use Rattle.sum_propagator.specs.Sides.{coefficient_of, AreSmall}
+use Rattle.trail_bounds.specs.OnTrail.{bounds_on}
+use Rattle.trail_bounds.specs.Items.{coefficient_of}
+use Rattle.sum_propagator.specs.Sides.{AreSmall}
 use Rattle.sum_propagator.specs.declared.sum.Totals.{Totals}
 use Rattle.sum_propagator.specs.declared.moves.Move.{Move}
 

@@ -2,7 +2,6 @@
 use Rattle.std.specs.Prelude.{◌≡◌, ◌+ℤ◌, ◌≤ℤ◌, pos, IfSome, ℕ, ◌==◌, Bool, true, false, ◌&&◌, ◌||◌, ℤ, ◌-ℤ◌, int_le, int_lt, List, [], ◌∷◌, map, Option, None, Some}
 use Rattle.std.specs.List.{All, list_all, list_any}
 use Rattle.symbols.specs.declared.ends.Ends.{Ends}
-use Rattle.literals.specs.declared.lit.Lit.{Lit}
 use Rattle.literals.specs.declared.lit.Lit.TheVariants as l
 use Rattle.literals.specs.declared.reason.Step.{Step}
 use Rattle.literals.specs.declared.reason.Step.TheVariants.{Sum}
@@ -12,34 +11,17 @@ use Rattle.linear_normal.specs.declared.constraint.Item.TheVariants.{Value, Trut
 use Rattle.linear_normal.specs.declared.constraint.Constraint.TheVariants as c
 use Rattle.linear_normal.specs.Bounds.{Bounds, bounds_named, least_item, greatest_item, least_sum, greatest_sum}
 use Rattle.linear_normal.specs.Steps.{is_one_of, is_sum}
-use Rattle.numbering_laws.specs.Items.{counts_truth, is_item_within}
+use Rattle.numbering_laws.specs.Items.{counts_truth}
 use Rattle.trail.specs.declared.shape.Shape.{Shape}
 use Rattle.trail.specs.declared.entry.Entry.{Entry}
 use Rattle.trail.specs.Assignment.{Assignment, lits_of, is_true_on, truth_on}
 use Rattle.propagator_core.specs.declared.touch.Touch.{Touch}
 use Rattle.propagator_core.specs.declared.touch.Touch.TheVariants as touch
 use Rattle.propagator_core.specs.Meaning.{Meaning}
+pub use Rattle.trail_bounds.specs.OnTrail.{is_of, is_item_of, bounds_on}
 use Rattle.sum_propagator.specs.declared.sum.Totals.{Totals}
 
--- NUMBERS
-
--- the literal names an atom, a body, a constraint or a variable of the shape
-abbrev pub is_of : Shape → Lit → Bool
-is_of s (l.Atom n sign) = is_one_of s.atoms n
-is_of s (l.Body n sign) = is_one_of s.bodies n
-is_of s (l.Constraint n sign) = is_one_of s.constraints n
-is_of s (l.AtMost x k) = is_one_of s.variables x
-is_of s (l.AtLeast x k) = is_one_of s.variables x
-
--- the item counts a variable or a constraint of the shape
-abbrev pub is_item_of : Shape → Item → Bool
-is_item_of s item = is_item_within s.variables s.constraints item
-
 -- MEANING
-
--- the bounds on the trail
-abbrev pub bounds_on : Assignment → Bounds
-bounds_on t = bounds_named t.shape.ends (lits_of t.entries)
 
 -- the step is that of the sum of this number
 abbrev pub is_step_of : ℕ → Step → Bool

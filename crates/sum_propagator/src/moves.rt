@@ -3,15 +3,16 @@ ghost use Rattle.std.specs.Prelude.{◌≡◌, ◌<◌, ◌≤◌, ◌+◌, ◌^
 ghost use Rattle.std.specs.Int.RustNames.{unsigned_abs};
 ghost use Rattle.trail.specs.Assignment.{IsAssignment};
 ghost use Rattle.sum_propagator.specs.Sums.{fits_sum};
-ghost use Rattle.sum_propagator.specs.Sides.{coefficient_of, AreSmall};
+ghost use Rattle.trail_bounds.specs.Items.{coefficient_of};
+ghost use Rattle.sum_propagator.specs.Sides.{AreSmall};
 ghost use Rattle.sum_propagator.specs.Moves.{front, move_of, moves_least, step_by, AreRising, AreTotals, IsMoved};
 
-use crate::item::signed;
 use crate::places::place_of;
 use crate::sum::{Sum, Totals};
 use linear_normal::Item;
 use literals::Lit;
 use trail::Trail;
+use trail_bounds::signed;
 
 /// What a literal moves: the lower or the upper bound of what the item of this key counts.
 #[derive(Clone, Copy, Debug)]

@@ -1,51 +1,21 @@
 // Why a sum forces a literal or is in conflict.
-ghost use Rattle.std.specs.Prelude.{◌≡◌, ◌+◌, ◌<◌, List, length, IsTrue, IfOk, IfSome, IfNone, OnOk};
+ghost use Rattle.std.specs.Prelude.{◌≡◌, ℕ, ◌+◌, ◌<◌, List, length, IsTrue, IfOk};
 ghost use Rattle.std.specs.List.{All};
 ghost use Rattle.literals.specs.declared.lit.Lit.{Lit};
 ghost use Rattle.trail.specs.Assignment.{IsAssignment, Names};
-ghost use Rattle.sum_propagator.specs.Sums.{is_item_of};
-ghost use Rattle.sum_propagator.specs.Reasons.{IsBacking, IsBacked, BacksOne, Backs, Explains};
+ghost use Rattle.trail_bounds.specs.OnTrail.{is_item_of};
+ghost use Rattle.sum_propagator.specs.Reasons.{Backs, Explains};
 
-use crate::item::{Range, greatest_lit, least_lit, range_of_ends, range_on, signed};
 use crate::sum::Sum;
 use linear_normal::Item;
 use literals::{Lit, Nogood, Reason, Step};
 use std::alloc::Global;
 use symbols::Memory;
 use trail::Trail;
+use trail_bounds::back_item;
 
-// The literal on which the least of the coefficient times the item's number stands, unless the ends say it.
-fn backing(item: Item, c: i128, range: Range, ends: Range) -> Option<Lit>
-    ensures some { IfSome result (λ lit. IsBacking item c range.low range.high ends.low ends.high lit) }
-    ensures none { IfNone result (IsBacked c range.low range.high ends.low ends.high) }
-{
-    if c > 0 && range.low != ends.low {
-        return Some(least_lit(item, range.low));
-    }
-    if c < 0 && range.high != ends.high {
-        return Some(greatest_lit(item, range.high));
-    }
-    None
-}
-
-// Adds the literal on which the item's least value stands, unless the ends say it.
-fn back_one(trail: &Trail, item: Item, side: bool, lits: &mut Vec<Lit>) -> Result<(), Memory>
-    requires assignment { IsAssignment trail.now }
-    requires named { IsTrue (is_item_of trail.now.shape item) }
-    ensures { OnOk result (BacksOne trail.now side item lits.old.items lits.new.items) }
-{
-    let range = range_on(trail, item);
-    let ends = range_of_ends(trail.shape().ends, item);
-    match backing(item, signed(item, side), range, ends) {
-        None => Ok(()),
-        Some(lit) => {
-            lits.push(lit)?;
-            Ok(())
-        }
-    }
-}
-
-// Adds what the item at this place stands on, or another literal in its place.
+// Adds what the item at this place stands on, or another literal in its place, and gives what is left of
+// the slack.
 fn back_at(
     trail: &Trail,
     items: &[Item],
@@ -53,43 +23,47 @@ fn back_at(
     but: usize,
     instead: Lit,
     at: usize,
+    slack: u128,
     lits: &mut Vec<Lit>,
-) -> Result<(), Memory>
+) -> Result<u128, Memory>
     requires assignment { IsAssignment trail.now }
     requires named { All (λ item. IsTrue (is_item_of trail.now.shape item)) items.now }
     requires instead { Names trail.now.shape instead }
     requires at { at < length items.now }
-    ensures { OnOk result ((first : List Lit) → Backs trail.now side items.now but instead at first lits.old.items → Backs trail.now side items.now but instead (at + 1) first lits.new.items) }
+    ensures { IfOk result (λ left. (start : ℕ) (first : List Lit) → Backs trail.now side items.now but instead start slack at first lits.old.items → Backs trail.now side items.now but instead start left (at + 1) first lits.new.items) }
 {
     if at != but {
-        return back_one(trail, items[at], side, lits);
+        return back_item(trail, items[at], side, slack, lits);
     }
     lits.push(instead)?;
-    Ok(())
+    Ok(slack)
 }
 
-// Adds the literals on which the least sum stands, with another one in the place of one item.
+// Adds the literals on which the least sum stands, but for the slack, with another one in the place of one
+// item.
 fn back_all(
     trail: &Trail,
     items: &[Item],
     side: bool,
     but: usize,
     instead: Lit,
+    slack: u128,
     lits: &mut Vec<Lit>,
-) -> Result<(), Memory>
+) -> Result<u128, Memory>
     requires assignment { IsAssignment trail.now }
     requires named { All (λ item. IsTrue (is_item_of trail.now.shape item)) items.now }
     requires instead { Names trail.now.shape instead }
-    ensures { OnOk result (Backs trail.now side items.now but instead (length items.now) lits.old.items lits.new.items) }
+    ensures { IfOk result (λ left. Backs trail.now side items.now but instead slack left (length items.now) lits.old.items lits.new.items) }
 {
+    let mut left = slack;
     for at in 0..items.len() {
-        back_at(trail, items, side, but, instead, at, lits)?;
+        left = back_at(trail, items, side, but, instead, at, left, lits)?;
     }
-    Ok(())
+    Ok(left)
 }
 
 /// The constraint on this side and the literals on which the least sum stands, with another one in the
-/// place of one item, or of none where the place is past the last.
+/// place of one item, or of none where the place is past the last. Their sum may be smaller by the slack.
 pub(crate) fn explain(
     alloc: Global,
     trail: &Trail,
@@ -97,16 +71,18 @@ pub(crate) fn explain(
     side: bool,
     but: usize,
     instead: Lit,
+    slack: u128,
 ) -> Result<Reason, Memory>
     requires assignment { IsAssignment trail.now }
     requires number { Names trail.now.shape (Lit.Constraint sum.now.number side) }
     requires named { All (λ item. IsTrue (is_item_of trail.now.shape item)) sum.now.items }
     requires instead { Names trail.now.shape instead }
-    ensures { IfOk result (λ reason. Explains trail.now sum.now.number sum.now.items side but instead reason) }
+    ensures { IfOk result (λ reason. Explains trail.now sum.now.number sum.now.items side but instead slack reason) }
 {
     let mut lits = Vec::new(alloc);
     lits.push(Lit::Constraint(sum.number, side))?;
-    back_all(trail, sum.items.items(), side, but, instead, &mut lits)?;
+    let items = sum.items.items();
+    back_all(trail, items, side, but, instead, slack, &mut lits)?;
     let nogood = Nogood::from_lits(alloc, lits.as_slice())?;
     Ok(Reason {
         nogood,

@@ -5,14 +5,15 @@ ghost use Rattle.std.specs.List.{All};
 ghost use Rattle.trail.specs.Assignment.{IsAssignment};
 ghost use Rattle.linear_normal.specs.Bounds.{least_item, greatest_item, least_sum, greatest_sum};
 ghost use Rattle.numbering_laws.specs.Items.{are_items};
-ghost use Rattle.sum_propagator.specs.Sums.{is_item_of, bounds_on, IsWithin};
+ghost use Rattle.sum_propagator.specs.Sums.{IsWithin};
+ghost use Rattle.trail_bounds.specs.OnTrail.{is_item_of, bounds_on};
 ghost use Rattle.sum_propagator.specs.Moves.{AreRising, AreCoefficients};
 ghost use Rattle.sum_propagator.specs.Sides.{AreSmall, limit_of, total_of};
 
-use crate::item::{greatest_of, least_of, number_in, range_on, signed, swing};
 use linear_normal::Item;
 use symbols::Listed;
 use trail::Trail;
+use trail_bounds::{greatest_of, least_of, number_in, range_on, signed, swing};
 
 /// The constraint of this number: the sum of the items is at most a number.
 #[derive(Debug, Drop)]

@@ -10,9 +10,11 @@ ghost use Rattle.propagator_core.specs.Shown.{IsShown};
 ghost use Rattle.propagator_core.specs.Quiet.{Answers};
 ghost use Rattle.propagator_core.specs.Standing.{StandsFor};
 ghost use Rattle.numbering_laws.specs.Items.{are_items};
-ghost use Rattle.sum_propagator.specs.Sums.{bounds_on, fits_sum, valid_sum, sum_meaning, totals_after, AreWithin, StandsAt};
+ghost use Rattle.sum_propagator.specs.Sums.{fits_sum, valid_sum, sum_meaning, totals_after, AreWithin, StandsAt};
+ghost use Rattle.trail_bounds.specs.OnTrail.{bounds_on};
 ghost use Rattle.sum_propagator.specs.Moves.{AreRising};
-ghost use Rattle.sum_propagator.specs.Sides.{AreSmall, limit_of, side_sum};
+ghost use Rattle.sum_propagator.specs.Sides.{AreSmall, limit_of};
+ghost use Rattle.trail_bounds.specs.Sides.{side_sum};
 
 use crate::moves::totals_from;
 use crate::narrow::press;
@@ -35,6 +37,16 @@ fn slack_of(limit: i128, total: i128) -> u128
     ensures { (total +ℤ pos result) ≡ limit }
 {
     (limit - total).unsigned_abs()
+}
+
+// How much more the total may be smaller and still exceed the limit.
+fn excess_of(limit: i128, total: i128) -> u128
+    requires order { limit <ℤ total }
+    requires limit { unsigned_abs limit ≤ 2 ^ 121 }
+    requires total { unsigned_abs total ≤ 2 ^ 126 }
+    ensures { (limit +ℤ pos result) <ℤ total }
+{
+    (total - limit - 1).unsigned_abs()
 }
 
 // Whether it is known that all items' values lie no further apart than this.
@@ -68,8 +80,9 @@ fn decided(
 {
     let limit = limit(sum.most, side);
     if total > limit {
+        let spare = excess_of(limit, total);
         let on = Lit::Constraint(sum.number, side);
-        let reason = explain(alloc, trail, sum, side, sum.items.len(), on)?;
+        let reason = explain(alloc, trail, sum, side, sum.items.len(), on, spare)?;
         return Ok(Outcome::Conflict(reason));
     }
     let slack = slack_of(limit, total);
@@ -87,16 +100,25 @@ fn decided(
 }
 
 // Sets the open constraint to the other side, this one being excluded.
-fn settle(alloc: Global, trail: &mut Trail, sum: &Sum, side: bool) -> Result<(), Memory>
+fn settle(
+    alloc: Global,
+    trail: &mut Trail,
+    sum: &Sum,
+    side: bool,
+    total: i128,
+) -> Result<(), Memory>
     requires assignment { IsAssignment trail.old }
     requires fits { IsTrue (fits_sum sum.now.number sum.now.items trail.old.shape) }
     requires unknown { truth_on trail.old (Lit.Constraint sum.now.number true) ≡ None }
-    requires beyond { limit_of side sum.now.most <ℤ side_sum side (bounds_on trail.old) sum.now.items }
+    requires total { total ≡ side_sum side (bounds_on trail.old) sum.now.items }
+    requires small { unsigned_abs total ≤ 2 ^ 126 }
+    requires beyond { limit_of side sum.now.most <ℤ total }
     ensures grows { Grows (IsShown (valid_sum sum.now.number sum.now.items sum.now.most)) trail.old trail.new }
     ensures longer { OnOk result (length trail.old.entries < length trail.new.entries) }
 {
+    let spare = excess_of(limit(sum.most, side), total);
     let on = Lit::Constraint(sum.number, side);
-    let reason = explain(alloc, trail, sum, side, sum.items.len(), on)?;
+    let reason = explain(alloc, trail, sum, side, sum.items.len(), on, spare)?;
     trail.set(Lit::Constraint(sum.number, !side), Why::Shown(reason))?;
     Ok(())
 }
@@ -124,7 +146,7 @@ fn answer(
         None => match excluded(sum.most, totals) {
             None => Ok(Outcome::Quiet),
             Some(side) => {
-                settle(alloc, trail, sum, side)?;
+                settle(alloc, trail, sum, side, total(totals, side))?;
                 Ok(Outcome::Narrowed)
             }
         },

@@ -186,15 +186,15 @@ greatest_step t (Constraint m false) n o h = cond_over (m == n) (pos 0) ((bounds
 greatest_step t (AtMost y j) n o h = h
 greatest_step t (AtLeast y j) n o h = h
 
-low_left : (t : Assignment) (l : Lit) (i : Item) → IsAssignment t → truth_on t l ≡ None → low_in (bounds_with t l) i ≤ℤ high_in (bounds_on t) i
+pub low_left : (t : Assignment) (l : Lit) (i : Item) → IsAssignment t → truth_on t l ≡ None → low_in (bounds_with t l) i ≤ℤ high_in (bounds_on t) i
 low_left t l (Value x c) h o = subst (λ (k : ℤ). k ≤ℤ (bounds_on t).high x) (sym (fold-push (raised x) t.shape.ends.min (lits_of t.entries) l)) (low_step t l x o (range_meets t (Value x c) h))
 low_left t l (Truth n c) h o = subst (λ (k : ℤ). k ≤ℤ (bounds_on t).greatest n) (sym (fold-push (counted n) (pos 0) (lits_of t.entries) l)) (least_step t l n o (range_meets t (Truth n c) h))
 
-high_left : (t : Assignment) (l : Lit) (i : Item) → IsAssignment t → truth_on t l ≡ None → low_in (bounds_on t) i ≤ℤ high_in (bounds_with t l) i
+pub high_left : (t : Assignment) (l : Lit) (i : Item) → IsAssignment t → truth_on t l ≡ None → low_in (bounds_on t) i ≤ℤ high_in (bounds_with t l) i
 high_left t l (Value x c) h o = subst (λ (k : ℤ). (bounds_on t).low x ≤ℤ k) (sym (fold-push (lowered x) t.shape.ends.max (lits_of t.entries) l)) (high_step t l x o (range_meets t (Value x c) h))
 high_left t l (Truth n c) h o = subst (λ (k : ℤ). (bounds_on t).least n ≤ℤ k) (sym (fold-push (discounted n) (pos 1) (lits_of t.entries) l)) (greatest_step t l n o (range_meets t (Truth n c) h))
 
-this_item : (t : Assignment) (side : Bool) (l : Lit) (i : Item) (slack : ℕ) → IsAssignment t → truth_on t l ≡ None → Rests side (bounds_on t) slack i → side_least side (bounds_with t l) i ≤ℤ (side_least side (bounds_on t) i +ℤ pos slack)
+pub this_item : (t : Assignment) (side : Bool) (l : Lit) (i : Item) (slack : ℕ) → IsAssignment t → truth_on t l ≡ None → Rests side (bounds_on t) slack i → side_least side (bounds_with t l) i ≤ℤ (side_least side (bounds_on t) i +ℤ pos slack)
 this_item t side l i slack h o r =
     on (side_least side (bounds_with t l) i) (side_greatest side (bounds_on t) i) (side_least side (bounds_on t) i)
     (least_within (signed_by side (coefficient_of i)) (low_in (bounds_on t) i) (high_in (bounds_on t) i) (low_in (bounds_with t l) i) (high_in (bounds_with t l) i) (low_left t l i h o) (high_left t l i h o)) r

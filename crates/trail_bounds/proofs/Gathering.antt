@@ -15,14 +15,14 @@ use Rattle.trail.specs.Assignment.{Names}
 use Rattle.trail_bounds.specs.OnTrail.{is_of}
 use Rattle.trail_bounds.specs.Backing.{Follow}
 
-is_of_names : (s : Shape) (l : Lit) → Names s l → is_of s l ≡ true
+pub is_of_names : (s : Shape) (l : Lit) → Names s l → is_of s l ≡ true
 is_of_names s (Atom n r) h = let a = h.literal in let b = h.within in grind (arith, nat_tests)
 is_of_names s (Body n r) h = let a = h.literal in let b = h.within in grind (arith, nat_tests)
 is_of_names s (Constraint n r) h = let a = h.literal in let b = h.within in grind (arith, nat_tests)
 is_of_names s (AtMost x k) h = let a = h.literal.0 in let b = h.within in grind (arith, nat_tests)
 is_of_names s (AtLeast x k) h = let a = h.literal.0 in let b = h.within in grind (arith, nat_tests)
 
-all_of : (s : Shape) (ls : List Lit) → AllByRecursion (Names s) ls → list_all (is_of s) ls ≡ true
+pub all_of : (s : Shape) (ls : List Lit) → AllByRecursion (Names s) ls → list_all (is_of s) ls ≡ true
 all_of s [] a = refl
 all_of s (l ∷ ls) a = rw (is_of_names s l a.0) (all_of s ls a.1)
 

@@ -1,7 +1,6 @@
 -- Sums of items under bounds, item after item.
-use Rattle.std.proofs.Common.{◌≡◌, ℕ, zero, suc, ◌+◌, ◌<◌, ◌≤◌, Bool, true, false, refl, ◌∙◌, ap, arith, List, [], ◌∷◌, length, get_or, drop, ℤ, pos, neg_ℤ, ◌+ℤ◌, ◌≤ℤ◌}
+use Rattle.std.proofs.Common.{◌≡◌, ℕ, zero, suc, ◌+◌, ◌<◌, ◌≤◌, Bool, true, false, refl, ◌∙◌, arith, List, [], ◌∷◌, length, get_or, ℤ, neg_ℤ, ◌+ℤ◌, ◌≤ℤ◌}
 use Rattle.std.proofs.lemmas.Int.{ints}
-use Rattle.std.proofs.lemmas.List.{drop_more, drop_all}
 use Rattle.symbols.specs.declared.ends.Ends.{Ends}
 use Rattle.literals.specs.declared.lit.Lit.{Lit}
 use Rattle.linear_normal.specs.declared.constraint.Item.{Item}
@@ -53,18 +52,6 @@ one_least b i c low high r v e f g = v ∙ rw (e, f, g) (item_least b i)
 
 pub one_greatest : (b : Bounds) (i : Item) (c low high r : ℤ) → r ≡ greatest_times c low high → c ≡ coefficient_of i → low ≡ low_in b i → high ≡ high_in b i → r ≡ greatest_item b i
 one_greatest b i c low high r v e f g = v ∙ rw (e, f, g) (item_greatest b i)
-
-pub least_next : (b : Bounds) (xs : List Item) (i : ℕ) (d : Item) → i < length xs → least_sum b (drop i xs) ≡ least_item b (get_or xs i d) +ℤ least_sum b (drop (i + 1) xs)
-least_next b xs i d lt = ap (least_sum b) (drop_more xs i d lt)
-
-pub least_end : (b : Bounds) (xs : List Item) (i : ℕ) → length xs ≤ i → least_sum b (drop i xs) ≡ pos 0
-least_end b xs i le = ap (least_sum b) (drop_all i xs le)
-
-pub greatest_next : (b : Bounds) (xs : List Item) (i : ℕ) (d : Item) → i < length xs → greatest_sum b (drop i xs) ≡ greatest_item b (get_or xs i d) +ℤ greatest_sum b (drop (i + 1) xs)
-greatest_next b xs i d lt = ap (greatest_sum b) (drop_more xs i d lt)
-
-pub greatest_end : (b : Bounds) (xs : List Item) (i : ℕ) → length xs ≤ i → greatest_sum b (drop i xs) ≡ pos 0
-greatest_end b xs i le = ap (greatest_sum b) (drop_all i xs le)
 
 pub side-true : (b : Bounds) (items : List Item) → side_sum true b items ≡ least_sum b items
 side-true b [] = refl

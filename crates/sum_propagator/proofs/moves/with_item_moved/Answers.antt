@@ -1,7 +1,7 @@
 use Rattle.std.proofs.Common.{rules, FitsSigned, w32}
 use Rattle.std.specs.Int.{w128}
 use Rattle.std.proofs.lemmas.Int.{to_z-of_z}
-use Rattle.sum_propagator.specs.Sides.{coefficient_of}
+use Rattle.trail_bounds.specs.Items.{coefficient_of}
 use Rattle.sum_propagator.proofs.Moving.{stepped_least, stepped_greatest}
 use Rattle.sum_propagator.proofs.moves.with_item_moved.Goals as goal
 

@@ -1,6 +1,6 @@
 use Rattle.std.proofs.Common.{refl, inl, inr, get_or, pos}
 use Rattle.linear_normal.specs.declared.constraint.Item.TheVariants.{Value}
-use Rattle.sum_propagator.proofs.Backing.{at_place}
+use Rattle.trail_bounds.proofs.ItemSums.{at_place}
 use Rattle.sum_propagator.proofs.moves.with_move.Goals as goal
 
 pub returns-in-None : goal.returns-in-None

@@ -3,7 +3,8 @@ use Rattle.trail.proofs.GrowthLaws.{grows_on, grows_assignment}
 use Rattle.propagator_core.specs.Shown.{IsShown}
 use Rattle.sum_propagator.specs.Sums.{valid_sum}
 use Rattle.sum_propagator.specs.Sides.{limit_of}
-use Rattle.sum_propagator.proofs.Narrowing.{rests_more, on_grows, slack_grows, fits_grows}
+use Rattle.sum_propagator.proofs.Narrowing.{rests_more, fits_grows}
+use Rattle.trail_bounds.proofs.Needing.{on_grows, slack_grows}
 use Rattle.sum_propagator.proofs.narrow.press.Goals as goal
 
 pub press_one-requires-clause-assignment : goal.press_one-requires-clause-assignment

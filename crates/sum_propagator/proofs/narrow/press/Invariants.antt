@@ -2,8 +2,9 @@ use Rattle.std.proofs.Common.{◌≡◌, ◌<◌, ℕ, get_or}
 use Rattle.linear_normal.specs.declared.constraint.Item.{Item}
 use Rattle.trail.specs.Growth.{Grows}
 use Rattle.propagator_core.specs.Shown.{IsShown}
-use Rattle.sum_propagator.specs.Sums.{bounds_on, valid_sum}
-use Rattle.sum_propagator.specs.Sides.{Rests}
+use Rattle.trail_bounds.specs.OnTrail.{bounds_on}
+use Rattle.sum_propagator.specs.Sums.{valid_sum}
+use Rattle.trail_bounds.specs.Sides.{Rests}
 use Rattle.sum_propagator.proofs.narrow.press.Given as goal
 
 abbrev pub invariant-loop-at : goal.invariant-loop-at

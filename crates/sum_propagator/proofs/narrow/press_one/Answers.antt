@@ -1,7 +1,7 @@
 use Rattle.std.proofs.Common.{List, ◌≡◌, subst, sym, get_or, pos}
 use Rattle.linear_normal.specs.declared.constraint.Item.{Item}
 use Rattle.linear_normal.specs.declared.constraint.Item.TheVariants.{Value}
-use Rattle.sum_propagator.proofs.Backing.{at_place}
+use Rattle.trail_bounds.proofs.ItemSums.{at_place}
 use Rattle.sum_propagator.proofs.narrow.press_one.Goals as goal
 
 pub press_item-requires-clause-item : goal.press_item-requires-clause-item

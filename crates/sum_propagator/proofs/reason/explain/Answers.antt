@@ -12,8 +12,8 @@ pub returns : goal.returns
 returns c =
     let e : c.push.new.self.items ≡ Constraint c.args.sum.now.number c.args.side ∷ [] = search rules in
     let v : c.in_ok-nogood.nogood ≡ canonical c.back_all.new.lits.items = search rules in
-    explains c.args.trail.now c.args.sum.now.number c.args.sum.now.items c.args.side c.args.but c.args.instead c.back_all.new.lits.items (record { nogood = c.in_ok-nogood.nogood; step = Sum c.args.sum.now.number })
+    explains c.args.trail.now c.args.sum.now.number c.args.sum.now.items c.args.side c.args.but c.args.instead c.args.slack c.in_ok-back_all.field-0 c.back_all.new.lits.items (record { nogood = c.in_ok-nogood.nogood; step = Sum c.args.sum.now.number })
     c.requires.number
-    (subst (λ (items : List Item). Backs c.args.trail.now c.args.side items c.args.but c.args.instead (length items) (Constraint c.args.sum.now.number c.args.side ∷ []) c.back_all.new.lits.items) c.items.ensures
-    (subst (λ (old : List Lit). Backs c.args.trail.now c.args.side c.items.result.now c.args.but c.args.instead (length c.items.result.now) old c.back_all.new.lits.items) e c.in_ok-back_all.ensures))
+    (subst (λ (items : List Item). Backs c.args.trail.now c.args.side items c.args.but c.args.instead c.args.slack c.in_ok-back_all.field-0 (length items) (Constraint c.args.sum.now.number c.args.side ∷ []) c.back_all.new.lits.items) c.items-items.ensures
+    (subst (λ (old : List Lit). Backs c.args.trail.now c.args.side c.items-items.result.now c.args.but c.args.instead c.args.slack c.in_ok-back_all.field-0 (length c.items-items.result.now) old c.back_all.new.lits.items) e c.in_ok-back_all.ensures))
     v refl

@@ -1,7 +1,7 @@
 use Rattle.std.proofs.Common.{ℕ, ◌<◌, ◌≤◌, ◌^◌, get_or}
 use Rattle.std.specs.Int.RustNames.{unsigned_abs}
 use Rattle.linear_normal.specs.declared.constraint.Item.{Item}
-use Rattle.sum_propagator.specs.Sides.{coefficient_of}
+use Rattle.trail_bounds.specs.Items.{coefficient_of}
 use Rattle.sum_propagator.proofs.sum.coefficients.Given as goal
 
 abbrev pub invariant-loop-item : goal.invariant-loop-item

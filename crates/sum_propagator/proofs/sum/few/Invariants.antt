@@ -1,6 +1,6 @@
 use Rattle.std.proofs.Common.{ℕ, ◌<◌, ◌^◌, get_or}
 use Rattle.linear_normal.specs.declared.constraint.Item.{Item}
-use Rattle.sum_propagator.specs.Sides.{counted_number}
+use Rattle.trail_bounds.specs.Items.{counted_number}
 use Rattle.sum_propagator.proofs.sum.few.Given as goal
 
 abbrev pub invariant-loop-item : goal.invariant-loop-item

@@ -1,7 +1,7 @@
 use Rattle.std.proofs.Common.{◌≡◌, ◌≤◌, ◌*◌, ◌^◌, drop, ◌+ℤ◌}
 use Rattle.std.specs.Int.RustNames.{unsigned_abs}
 use Rattle.linear_normal.specs.Bounds.{least_sum, greatest_sum}
-use Rattle.sum_propagator.specs.Sums.{bounds_on}
+use Rattle.trail_bounds.specs.OnTrail.{bounds_on}
 use Rattle.sum_propagator.proofs.sum.totals_on.Given as goal
 
 abbrev pub invariant-loop-item : goal.invariant-loop-item

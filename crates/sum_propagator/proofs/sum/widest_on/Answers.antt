@@ -1,6 +1,6 @@
 use Rattle.std.proofs.Common.{rules}
-use Rattle.sum_propagator.specs.Sums.{bounds_on}
-use Rattle.sum_propagator.proofs.Backing.{at_place}
+use Rattle.trail_bounds.specs.OnTrail.{bounds_on}
+use Rattle.trail_bounds.proofs.ItemSums.{at_place}
 use Rattle.sum_propagator.proofs.Widths.{within_next}
 use Rattle.sum_propagator.proofs.sum.widest_on.Goals as goal
 

@@ -1,6 +1,7 @@
 use Rattle.std.proofs.Common.{ℕ, ◌<◌, get_or}
 use Rattle.linear_normal.specs.declared.constraint.Item.{Item}
-use Rattle.sum_propagator.specs.Sums.{bounds_on, IsWithin}
+use Rattle.trail_bounds.specs.OnTrail.{bounds_on}
+use Rattle.sum_propagator.specs.Sums.{IsWithin}
 use Rattle.sum_propagator.proofs.sum.widest_on.Given as goal
 
 abbrev pub invariant-loop-item : goal.invariant-loop-item

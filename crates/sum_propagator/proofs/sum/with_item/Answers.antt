@@ -1,8 +1,8 @@
 use Rattle.std.proofs.Common.{rules, ◌+ℤ◌, ap, FitsSigned}
 use Rattle.std.specs.Int.{w128}
 use Rattle.std.proofs.lemmas.Int.{to_z-of_z}
-use Rattle.sum_propagator.specs.Sums.{bounds_on}
-use Rattle.sum_propagator.proofs.Backing.{one_least, one_greatest}
+use Rattle.trail_bounds.specs.OnTrail.{bounds_on}
+use Rattle.trail_bounds.proofs.ItemSums.{one_least, one_greatest}
 use Rattle.sum_propagator.proofs.sum.with_item.Goals as goal
 
 pub returns-clause-least : goal.returns-clause-least

@@ -1,19 +1,21 @@
 use Rattle.std.proofs.Common.{rules, arith, ◌≡◌, ◌<◌, ◌+◌, ◌+ℤ◌, ◌<ℤ◌, pos, subst, sym, ◌∙◌, FitsSigned, ℕ, List, length, IsTrue}
 use Rattle.std.specs.Int.{w128}
 use Rattle.std.specs.List.{All}
-use Rattle.std.proofs.lemmas.Int.{ints, to_z-of_z}
+use Rattle.std.proofs.lemmas.Int.{to_z-of_z}
 use Rattle.literals.specs.declared.lit.Lit.TheVariants.{Constraint}
 use Rattle.linear_normal.specs.declared.constraint.Item.{Item}
 use Rattle.trail.specs.Assignment.{Assignment}
 use Rattle.trail.proofs.GrowthLaws.{grows_same, grows_length}
 use Rattle.propagator_core.specs.Shown.{IsShown}
 use Rattle.propagator_core.specs.Quiet.{IsQuiet}
-use Rattle.sum_propagator.specs.Sums.{is_item_of, valid_sum, sum_meaning, rests_sum, bounds_on, IsWithin}
-use Rattle.sum_propagator.specs.Sides.{limit_of, side_sum}
+use Rattle.trail_bounds.specs.OnTrail.{is_item_of, bounds_on}
+use Rattle.sum_propagator.specs.Sums.{valid_sum, sum_meaning, rests_sum, IsWithin}
+use Rattle.sum_propagator.specs.Sides.{limit_of}
+use Rattle.trail_bounds.specs.Sides.{side_sum}
 use Rattle.sum_propagator.specs.Reasons.{Explains}
 use Rattle.sum_propagator.proofs.Narrowing.{items_of, fits_grows}
 use Rattle.sum_propagator.proofs.Widths.{all_rest}
-use Rattle.sum_propagator.proofs.Settling.{conflict_here, above_here, sum_is}
+use Rattle.sum_propagator.proofs.Settling.{conflict_here, excess_is, sum_is}
 use Rattle.sum_propagator.proofs.Resting.{done_here}
 use Rattle.sum_propagator.proofs.sum_propagator.decided.Goals as goal
 
@@ -23,10 +25,10 @@ returns-then-total-limit-clause-answer c =
     let ft : FitsSigned w128 c.args.total = search rules in
     let fl : FitsSigned w128 c.limit-limit.result = search rules in
     let e = simp to_z-of_z at c.limit-limit.ensures.value in
-    let h : c.limit-limit.result <ℤ c.args.total = (let g = c.if-total-limit.true in grind (arith, ints, to_z-of_z)) in
-    conflict_here c.args.trail.now c.args.sum.now.number c.args.sum.now.items c.args.sum.now.most c.args.side c.in_ok-reason.reason c.requires.on
-    (above_here (limit_of c.args.side c.args.sum.now.most) c.limit-limit.result c.args.total (side_sum c.args.side (bounds_on c.args.trail.now) c.args.sum.now.items) e c.requires.total h)
-    (subst (λ (n : ℕ). Explains c.args.trail.now c.args.sum.now.number c.args.sum.now.items c.args.side n (Constraint c.args.sum.now.number c.args.side) c.in_ok-reason.reason) c.len.ensures c.in_ok-reason.ensures)
+    let h : (c.limit-limit.result +ℤ pos c.excess_of-spare.result) <ℤ c.args.total = (let w = simp to_z-of_z at c.excess_of-spare.ensures in w) in
+    conflict_here c.args.trail.now c.args.sum.now.number c.args.sum.now.items c.args.sum.now.most c.args.side c.excess_of-spare.result c.in_ok-reason.reason c.requires.on
+    (excess_is (limit_of c.args.side c.args.sum.now.most) c.limit-limit.result c.args.total (side_sum c.args.side (bounds_on c.args.trail.now) c.args.sum.now.items) c.excess_of-spare.result e c.requires.total h)
+    (subst (λ (n : ℕ). Explains c.args.trail.now c.args.sum.now.number c.args.sum.now.items c.args.side n (Constraint c.args.sum.now.number c.args.side) c.excess_of-spare.result c.in_ok-reason.reason) c.len.ensures c.in_ok-reason.ensures)
 
 pub returns-then-length-before-clause-answer : goal.returns-then-length-before-clause-answer
 returns-then-length-before-clause-answer c =

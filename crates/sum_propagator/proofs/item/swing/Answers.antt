@@ -1,6 +1,0 @@
-use Rattle.std.proofs.Common.{rules}
-use Rattle.sum_propagator.proofs.Times.{rest_within}
-use Rattle.sum_propagator.proofs.item.swing.Goals as goal
-
-pub returns : goal.returns
-returns c = rest_within c.args.c c.args.range.low c.args.range.high c.width_of.result _ c.width_of.ensures.value (search rules)
