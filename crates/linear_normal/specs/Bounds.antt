@@ -1,10 +1,10 @@
 -- The bounds that a list of literals names, be it a line's or a trail's, and the least and greatest sums under bounds.
 use Rattle.std.specs.Prelude.{ℕ, ◌==◌, true, false, if◌then◌else◌, ℤ, pos, negsuc, ◌+ℤ◌, ◌*ℤ◌, List, [], ◌∷◌}
 use Rattle.std.specs.List.{fold}
-use Rattle.std.specs.Int.{int_max, int_min}
 use Rattle.symbols.specs.declared.ends.Ends.{Ends}
 use Rattle.literals.specs.declared.lit.Lit.{Lit}
-use Rattle.literals.specs.declared.lit.Lit.TheVariants.{Constraint, AtMost, AtLeast}
+use Rattle.literals.specs.declared.lit.Lit.TheVariants.{Constraint}
+pub use Rattle.literals.specs.Bounds.{lower_after as raised, upper_after as lowered, lower_of, upper_of}
 use Rattle.ground_model.specs.declared.linear.Linear.{Linear}
 use Rattle.linear_normal.specs.declared.constraint.Item.{Item}
 use Rattle.linear_normal.specs.declared.constraint.Item.TheVariants.{Value, Truth}
@@ -15,16 +15,6 @@ pub record Bounds : Type 0 where
   pub high : ℕ → ℤ
   pub least : ℕ → ℤ
   pub greatest : ℕ → ℤ
-
--- the lower bound of x after one more literal
-abbrev pub raised : ℕ → ℤ → Lit → ℤ
-raised x bound (AtLeast y k) = (if y == x then int_max bound k else bound)
-raised x bound lit = bound
-
--- the upper bound of x after one more literal
-abbrev pub lowered : ℕ → ℤ → Lit → ℤ
-lowered x bound (AtMost y k) = (if y == x then int_min bound k else bound)
-lowered x bound lit = bound
 
 -- constraint c counts at least 1 after a literal that says that it is true
 abbrev pub counted : ℕ → ℤ → Lit → ℤ
@@ -39,8 +29,8 @@ discounted c count lit = count
 -- the bounds that literals name: from the ends on, each variable's greatest lower and least upper bound; a constraint counts from 0 to 1
 abbrev pub bounds_named : Ends → List Lit → Bounds
 bounds_named ends lits = record {
-  low = λ x. fold (raised x) ends.min lits;
-  high = λ x. fold (lowered x) ends.max lits;
+  low = λ x. lower_of ends lits x;
+  high = λ x. upper_of ends lits x;
   least = λ c. fold (counted c) (pos 0) lits;
   greatest = λ c. fold (discounted c) (pos 1) lits;
 }
