@@ -1,6 +1,9 @@
 pub mod TableLemmas
 pub mod Terms
+pub mod ValueForms
 pub mod Values
+pub mod VariableForms
+pub mod Worths
 pub mod Places
 pub mod Literals
 pub mod Statements

@@ -1,5 +1,8 @@
 -- The table of constants as the list that it says.
-use Rattle.std.proofs.Common.{◌≡◌, ℕ, ◌<◌, ◌≤◌, Bool, true, false, cond, is_some, List, [], ◌∷◌, ◌++◌, map, take, length, Option, Some, None, refl, sym, ap, ◌∙◌, subst, take_all}
+use Rattle.std.proofs.Common.{◌≡◌, ℕ, suc, ◌+◌, ◌<◌, ◌≤◌, nat_lt, Bool, true, false, not, cond, is_some, All, if◌then◌else◌, arith, List, [], ◌∷◌, ◌++◌, map, take, length, Option, Some, None, refl, sym, ap, ◌∙◌, subst, take_all}
+use Rattle.std.specs.List.{AllByRecursion, position, position_or_len}
+use Rattle.std.proofs.lemmas.List.Elements.{All-from_recursion}
+use Rattle.std.proofs.lemmas.Bool.{ltb-true, ltb-false, lt-ltb, le-ltb}
 use Rattle.std.specs.Map.{lookup}
 use Rattle.std.specs.Option.{option_map}
 use Rattle.std.specs.Str.{bytes_eq}
@@ -7,10 +10,13 @@ use Rattle.symbols.specs.Symbol.{Symbol, Function}
 use Rattle.symbols.specs.Table.{symbol_at, symbols_at, applied as applied_at, IsFront}
 use Rattle.symbols.proofs.TableLemmas.{symbol_at-front}
 use Rattle.syntax_tree.proofs.Holding.{longer}
+use Rattle.syntax_tree.specs.declared.binding.Value.{Value}
+use Rattle.syntax_tree.specs.declared.binding.Value.TheVariants as value
 use Rattle.syntax_tree.specs.declared.term.Term.{Term}
+use Rattle.syntax_tree.specs.Outcome.{IsSymbol, IsKnown, bound_in}
 use Rattle.asp_parser.specs.Replacement.{Constants, value_at, term_of, terms_of, applied}
 use Rattle.asp_parser.specs.Constants.{with_constant}
-use Rattle.asp_parser.specs.ConstantTable.{constants_in, AreHeld}
+use Rattle.asp_parser.specs.ConstantTable.{constants_in, AreHeld, values_in, IsTable, worth_of, number_in, number_from, number_at}
 
 -- a name's value by its id
 pub lookup_in : (symbols : List Symbol) (test : List ℕ → Bool) (entries : List (List ℕ × ℕ))
@@ -118,3 +124,87 @@ value_there constants symbols entries name view = go (lookup (bytes_eq name) ent
     go : (o : Option ℕ) → is_some o ≡ is_some (option_map (symbol_at symbols) o)
     go None = refl
     go (Some id) = refl
+
+-- ---- constants as variables
+-- the table grows
+pub table_front : (old new : List Symbol) (values : List (Option Value)) (entries : List (List ℕ × ℕ)) → IsFront old new → IsTable (length old) values entries → IsTable (length new) values entries
+table_front old new values entries front table = record { held = held_front old new entries front table.held; bound = table.bound }
+
+-- the same values and entries are those of the table
+pub same_table : (size : ℕ) (values after : List (Option Value)) (entries more : List (List ℕ × ℕ)) → more ≡ entries → after ≡ values → IsTable size values entries → IsTable size after more
+same_table size values after entries more same bound table = subst (λ v. IsTable size v more) (sym bound) (subst (λ e. IsTable size values e) (sym same) table)
+
+values_more : (entries : List (List ℕ × ℕ)) (name : List ℕ) (id : ℕ) → values_in (entries ++ (name, id) ∷ []) ≡ values_in entries ++ Some (value.Symbol id) ∷ []
+values_more [] name id = refl
+values_more (e ∷ es) name id = ap (λ rest. Some (value.Symbol e.1) ∷ rest) (values_more es name id)
+
+-- and has one constant more
+pub table_added : (old new : List Symbol) (values after : List (Option Value)) (entries more : List (List ℕ × ℕ)) (name : List ℕ) (id : ℕ) → IsFront old new → id < length new
+    → IsTable (length old) values entries → more ≡ entries ++ (name, id) ∷ [] → after ≡ values ++ Some (value.Symbol id) ∷ [] → IsTable (length new) after more
+table_added old new values after entries more name id front within table is bound = record {
+  held = held_added old new entries more name id front within table.held is;
+  bound = bound ∙ ap (λ l. l ++ Some (value.Symbol id) ∷ []) table.bound ∙ sym (values_more entries name id) ∙ sym (ap values_in is);
+}
+
+known_in : (size : ℕ) (entries : List (List ℕ × ℕ)) → AreHeld size entries → AllByRecursion (IsKnown size) (values_in entries)
+known_in size [] held = tt
+known_in size (e ∷ es) held = (held.0, known_in size es held.1)
+
+-- the variables have values of the table
+pub values_known : (size : ℕ) (values : List (Option Value)) (entries : List (List ℕ × ℕ)) → IsTable size values entries → All (IsKnown size) values
+values_known size values entries table = subst (All (IsKnown size)) (sym table.bound) (All-from_recursion (IsKnown size) (values_in entries) (known_in size entries table.held))
+
+worth_in : (symbols : List Symbol) (entries : List (List ℕ × ℕ)) → bound_in symbols (values_in entries) ≡ worth_of (constants_in symbols entries)
+worth_in symbols [] = refl
+worth_in symbols (e ∷ es) = ap (λ rest. IsSymbol (symbol_at symbols e.1) ∷ rest) (worth_in symbols es)
+
+-- and they are worth what the constants are
+pub values_worth : (constants : Constants) (symbols : List Symbol) (values : List (Option Value)) (entries : List (List ℕ × ℕ))
+    → constants ≡ constants_in symbols entries → IsTable (length symbols) values entries → bound_in symbols values ≡ worth_of constants
+values_worth constants symbols values entries view table = ap (bound_in symbols) table.bound ∙ worth_in symbols entries ∙ sym (ap worth_of view)
+
+less_more : (a b : ℕ) → nat_lt a b ≡ nat_lt (1 + a) (suc b)
+less_more a b = by (nat_lt a b) refl
+  where
+    by : (p : Bool) → nat_lt a b ≡ p → p ≡ nat_lt (1 + a) (suc b)
+    by true e = sym (lt-ltb (1 + a) (suc b) (let l = ltb-true a b e in omega (arith, l)))
+    by false e = sym (le-ltb (1 + a) (suc b) (let l = ltb-false a b e in omega (arith, l)))
+
+numbers_in : (symbols : List Symbol) (name : List ℕ) (first : ℕ) (entries : List (List ℕ × ℕ))
+    → number_from first (constants_in symbols entries) name ≡ option_map (λ place. first + place) (position (bytes_eq name) (map (λ entry. entry.0) entries))
+numbers_in symbols name first [] = refl
+numbers_in symbols name first (e ∷ es) = go (bytes_eq name e.0) (numbers_in symbols name (first + 1) es)
+  where
+    behind : ℕ → ℕ → Option ℕ
+    behind place count = cond (nat_lt place count) (Some place) None
+
+    further : (place count : ℕ) → option_map (λ n. first + 1 + n) (behind place count) ≡ option_map (λ n. first + n) (behind (1 + place) (suc count))
+    further place count = by (nat_lt place count) (nat_lt (1 + place) (suc count)) (less_more place count)
+      where
+        by : (a b : Bool) → a ≡ b → option_map (λ n. first + 1 + n) (cond a (Some place) None) ≡ option_map (λ n. first + n) (cond b (Some (1 + place)) None)
+        by true true is = ap Some (omega arith)
+        by false false is = refl
+        by true false is = absurd cc
+        by false true is = absurd cc
+
+    names : List (List ℕ)
+    names = map (λ entry. entry.0) es
+
+    go : (b : Bool) → number_from (first + 1) (constants_in symbols es) name ≡ option_map (λ n. first + 1 + n) (position (bytes_eq name) names)
+        → (if b then Some first else number_from (first + 1) (constants_in symbols es) name)
+        ≡ option_map (λ n. first + n) (behind (cond (not b) (1 + position_or_len (bytes_eq name) names) 0) (suc (length names)))
+    go true rest =
+        let some : first ≡ first + 0 = omega arith in
+        let less : nat_lt 0 (suc (length names)) ≡ true = lt-ltb 0 (suc (length names)) (omega arith) in
+        ap Some some ∙ sym (ap (λ b. option_map (λ n. first + n) (cond b (Some 0) None)) less)
+    go false rest = rest ∙ further (position_or_len (bytes_eq name) names) (length names)
+
+-- a name's number among the entries is that of its constant
+pub number_there : (constants : Constants) (symbols : List Symbol) (entries : List (List ℕ × ℕ)) (name : List ℕ)
+    → constants ≡ constants_in symbols entries → number_in entries name ≡ number_at constants name
+number_there constants symbols entries name view =
+    sym (ap (λ c. number_at c name) view ∙ numbers_in symbols name 1 entries ∙ go (position (bytes_eq name) (map (λ entry. entry.0) entries)))
+  where
+    go : (o : Option ℕ) → option_map (λ place. 1 + place) o ≡ option_map suc o
+    go None = refl
+    go (Some place) = ap Some (omega arith)

@@ -54,7 +54,7 @@ two_words (constant name term) rest = let one = (term_law 64).some term (word.ma
 two_words show_nothing rest = omega arith
 two_words (show name arity) rest = omega arith
 
-long_words : (form : StatementAt 64) (rest : List Word) → length (words_of_statement 64 form rest) ≡ size (words_of_statement 64) form + length rest
+pub long_words : (form : StatementAt 64) (rest : List Word) → length (words_of_statement 64 form rest) ≡ size (words_of_statement 64) form + length rest
 long_words form rest = ap length ((statement_law 64).parted form [] rest) ∙ length-append (words_of_statement 64 form []) rest
 
 pub behind_long : (forms : List (StatementAt 64)) (at : ℕ) → behind forms at ≡ at + length (text_words 64 forms)
@@ -95,7 +95,7 @@ some_first : (one : Failing) (fs : List Failing) → first_of (Some one) fs ≡ 
 some_first one [] h = absurd cc
 some_first one (f ∷ fs) h = let t = sooner_some one f in some_first t.0 fs (ap (λ z. first_of z fs) (sym t.1) ∙ h)
 
-none_fails : (fs : List Failing) → first_of None fs ≡ None → fs ≡ []
+pub none_fails : (fs : List Failing) → first_of None fs ≡ None → fs ≡ []
 none_fails [] h = refl
 none_fails (f ∷ fs) h = absurd (some_first f fs h)
 

@@ -4,65 +4,19 @@ use Rattle.std.specs.List.{list_all, AllByRecursion}
 use Rattle.symbols.specs.Symbol.{Symbol, Number, Identifier, Text, Function, arguments, depth}
 use Rattle.syntax_tree.specs.declared.term.Op.{Op}
 use Rattle.syntax_tree.specs.declared.term.Part.{Part}
-use Rattle.syntax_tree.specs.declared.term.Term.{Term, roll-Term}
-use Rattle.syntax_tree.specs.declared.term.Term.TheOpen.{Term-F}
-use Rattle.syntax_tree.specs.declared.term.Term.TheFolds.{fold-roll-Term}
+use Rattle.syntax_tree.specs.declared.term.Term.{Term}
 use Rattle.syntax_tree.specs.declared.term.Term.TheVariants as t
 use Rattle.syntax_tree.specs.Tree.{is_name, is_term, is_part, are_parts, begins_sum, adds, begins_product, multiplies}
 use Rattle.syntax_tree.specs.Outcome.{Outcome, IsSymbol, IsOver, IsUndefined}
-use Rattle.syntax_tree.specs.Value.{Arguments, AreSymbols, HasOver, HasUndefined, with_argument, applied_to, nested, named, joined, some_outcome, from_left, plain, negated, value_of, part_value, value_step, part_step}
+use Rattle.syntax_tree.specs.Value.{Arguments, AreSymbols, HasOver, HasUndefined, with_argument, applied_to, nested, named, joined, some_outcome, from_left, plain, negated, variable, value_of, part_value}
 use Rattle.syntax_tree.proofs.TreeRules.{number_rules, text_rules, function_rules, tuple_rules, sum_rules, product_rules, one_part}
 use Rattle.syntax_tree.proofs.PlainValues.{HoldsOfPlain, joined_has, negated_has}
 use Rattle.syntax_tree.proofs.Turns.{at_part}
 use Rattle.asp_parser.specs.Replacement.{Constants, value_at, applied, term_of, terms_of, replaced}
 use Rattle.asp_parser.specs.Constants.{symbol_of, symbol_in, with_constant, IsBad}
 use Rattle.asp_parser.specs.ConstantTable.{AreTrees}
+use Rattle.asp_parser.proofs.ValueForms.{text_value, number_value, variable_value, anonymous_value, function_value, tuple_value, sum_value, product_value, minus_value, interval_value}
 use Rattle.asp_parser.proofs.Terms.{Passes, every_term, truths, both, left, right, replaced_stays}
-
--- ONE FORM'S VALUE
-
-abbrev step : Term-F Outcome (Op × Outcome) → Outcome
-step = value_step []
-
-text_value : (text : List ℕ) → value_of [] (t.Text text) ≡ IsSymbol (Text text)
-unfolding roll-Term denote.Hole.Carrier.roll
-text_value text = fold-roll-Term Outcome (Op × Outcome) step part_step (Term-F.Text text)
-
-number_value : (n : ℤ) → value_of [] (t.Number n) ≡ IsSymbol (Number n)
-unfolding roll-Term denote.Hole.Carrier.roll
-number_value n = fold-roll-Term Outcome (Op × Outcome) step part_step (Term-F.Number n)
-
-variable_value : (n : ℕ) → value_of [] (t.Variable n) ≡ step (Term-F.Variable n)
-unfolding roll-Term denote.Hole.Carrier.roll
-variable_value n = fold-roll-Term Outcome (Op × Outcome) step part_step (Term-F.Variable n)
-
-anonymous_value : value_of [] t.Anonymous ≡ IsUndefined
-unfolding roll-Term denote.Hole.Carrier.roll
-anonymous_value = fold-roll-Term Outcome (Op × Outcome) step part_step Term-F.Anonymous
-
-function_value : (name : List ℕ) (args : List Term) → value_of [] (t.Function name args) ≡ named name (map (value_of []) args)
-unfolding roll-Term denote.Hole.Carrier.roll
-function_value name args = fold-roll-Term Outcome (Op × Outcome) step part_step (Term-F.Function name args)
-
-tuple_value : (args : List Term) → value_of [] (t.Tuple args) ≡ nested [] (map (value_of []) args)
-unfolding roll-Term denote.Hole.Carrier.roll
-tuple_value args = fold-roll-Term Outcome (Op × Outcome) step part_step (Term-F.Tuple args)
-
-sum_value : (parts : List Part) → value_of [] (t.Sum parts) ≡ from_left (map (part_value []) parts)
-unfolding roll-Term denote.Hole.Carrier.roll
-sum_value parts = fold-roll-Term Outcome (Op × Outcome) step part_step (Term-F.Sum parts)
-
-product_value : (parts : List Part) → value_of [] (t.Product parts) ≡ from_left (map (part_value []) parts)
-unfolding roll-Term denote.Hole.Carrier.roll
-product_value parts = fold-roll-Term Outcome (Op × Outcome) step part_step (Term-F.Product parts)
-
-minus_value : (inner : Term) → value_of [] (t.Minus inner) ≡ negated (value_of [] inner)
-unfolding roll-Term denote.Hole.Carrier.roll
-minus_value inner = fold-roll-Term Outcome (Op × Outcome) step part_step (Term-F.Minus inner)
-
-interval_value : (l r : Term) → value_of [] (t.Interval l r) ≡ IsUndefined
-unfolding roll-Term denote.Hole.Carrier.roll
-interval_value l r = fold-roll-Term Outcome (Op × Outcome) step part_step (Term-F.Interval l r)
 
 -- TREES
 
@@ -144,24 +98,24 @@ function_worth name (x ∷ xs) known h =
 
 worth : Passes Worth
 worth = record {
-  number = λ n h. subst IsTree (sym (number_value n)) (number_rules n);
-  text = λ text h. subst IsTree (sym (text_value text)) h;
-  variable = λ n h. subst IsTree (sym (variable_value n)) (unbound n);
-  anonymous = λ h. subst IsTree (sym anonymous_value) tt;
-  function = λ name args known h. subst IsTree (sym (function_value name args)) (function_worth name args known (sym (function_rules name args) ∙ h));
-  tuple = λ args known h. subst IsTree (sym (tuple_value args))
+  number = λ n h. subst IsTree (sym (number_value [] n)) (number_rules n);
+  text = λ text h. subst IsTree (sym (text_value [] text)) h;
+  variable = λ n h. subst IsTree (sym (variable_value [] n)) (unbound n);
+  anonymous = λ h. subst IsTree (sym (anonymous_value [])) tt;
+  function = λ name args known h. subst IsTree (sym (function_value [] name args)) (function_worth name args known (sym (function_rules name args) ∙ h));
+  tuple = λ args known h. subst IsTree (sym (tuple_value [] args))
       (applied_value [] (fold with_argument (AreSymbols []) (map (value_of []) args)) (inl refl) (arguments_all (AreSymbols []) (map (value_of []) args) refl (all_worth args known (sym (tuple_rules args) ∙ h))));
-  sum = λ parts known h. subst IsTree (sym (sum_value parts)) (parts_worth begins_sum adds parts known (sym (sum_rules parts) ∙ h));
-  product = λ parts known h. subst IsTree (sym (product_value parts)) (parts_worth begins_product multiplies parts known (sym (product_rules parts) ∙ h));
-  minus = λ inner known h. subst IsTree (sym (minus_value inner)) (negated_has IsTree plain_trees (value_of [] inner));
-  interval = λ l r known_l known_r h. subst IsTree (sym (interval_value l r)) tt;
+  sum = λ parts known h. subst IsTree (sym (sum_value [] parts)) (parts_worth begins_sum adds parts known (sym (sum_rules parts) ∙ h));
+  product = λ parts known h. subst IsTree (sym (product_value [] parts)) (parts_worth begins_product multiplies parts known (sym (product_rules parts) ∙ h));
+  minus = λ inner known h. subst IsTree (sym (minus_value [] inner)) (negated_has IsTree plain_trees (value_of [] inner));
+  interval = λ l r known_l known_r h. subst IsTree (sym (interval_value [] l r)) tt;
 }
   where
     none : (b : Bool) → IsTree (if b then IsUndefined else IsUndefined)
     none true = tt
     none false = tt
 
-    unbound : (n : ℕ) → IsTree (step (Term-F.Variable n))
+    unbound : (n : ℕ) → IsTree (variable [] n)
     unbound n = none (n == 0)
 
 -- a term's value is a tree as a term

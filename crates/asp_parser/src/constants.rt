@@ -4,11 +4,11 @@ ghost use Rattle.syntax_tree.specs.Tree.{is_term};
 ghost use Rattle.syntax_tree.specs.Statements.{is_statement, is_program};
 ghost use Rattle.asp_parser.specs.Replacement as spec;
 ghost use Rattle.asp_parser.specs.Constants.{IsReplaced, IsStop, constants_of, symbol_of, with_constant, with_statement};
-ghost use Rattle.asp_parser.specs.ConstantTable.{AreTrees, IsSetBy, IsStopAt};
+ghost use Rattle.asp_parser.specs.ConstantTable.{AreTrees, AreWorthThemselves, IsSetBy, IsStopAt};
 
+use crate::as_variables::as_variables;
 use crate::constant_table::ConstantTable;
 use crate::in_rules::changed;
-use crate::in_terms::replaced;
 use std::alloc::Global;
 use symbols::{Listed, Memory};
 use syntax_tree::{Program, Statement, Term};
@@ -27,8 +27,10 @@ pub enum ConstantStop {
 ///
 /// The statements that define them stay as they are. A value is put in as it is: what it holds is not
 /// replaced again. A term with a variable, `_` or an interval has no value, so it may not be a constant's.
-/// The work is linear in the program and in the values that are put in; a rule in which no constant stands
-/// is not made anew. The recursion is as deep as terms nest.
+/// A constant's term is evaluated over the values of the constants before it, which share what they have in
+/// common. The work is linear in the program and in the values that are put into rules, each as a tree of its
+/// own there, so that it may be exponential in the text where a value doubles from constant to constant; a
+/// rule in which no constant stands is not made anew. The recursion is as deep as terms nest.
 pub fn replace_constants(alloc: Global, program: Program) -> Result<Program, ConstantStop>
     requires { IsTrue (is_program program) }
     ensures replaced { IfOk result (IsReplaced program) }
@@ -92,8 +94,10 @@ fn add_statement(
 ) -> Result<(), ConstantStop>
     requires tree { IsTrue (is_statement statement.now) }
     requires trees { AreTrees constants.old }
+    requires values { AreWorthThemselves constants.old }
     ensures defined { OnOk result (with_statement constants.old statement.now ≡ Some constants.new) }
     ensures trees { OnOk result (AreTrees constants.new) }
+    ensures values { OnOk result (AreWorthThemselves constants.new) }
     ensures bad { IfErr result (IsStopAt constants.old statement.now file) }
 {
     match statement {
@@ -116,10 +120,10 @@ fn add_constant(
     constants: &mut ConstantTable,
 ) -> Result<bool, Memory>
     requires tree { IsTrue (is_term term.now) }
-    requires trees { AreTrees constants.old }
+    requires values { AreWorthThemselves constants.old }
     ensures { IfOk result (λ good. with_constant constants.old name.now (spec.value_at constants.old name.now) (symbol_of constants.old term.now) ≡ (if good then Some constants.new else None)) }
 {
-    let term = replaced(alloc, term, constants)?;
+    let term = as_variables(alloc, term, constants)?;
     constants.define(alloc, name, &term)
 }
 

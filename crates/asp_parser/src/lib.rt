@@ -8,6 +8,7 @@
 //! constant by its name.
 #![tactic(auto)]
 
+mod as_variables;
 mod body;
 mod choice;
 mod constant_table;

@@ -6,7 +6,7 @@ use Rattle.asp_parser.proofs.TableLemmas.{found_known, value_found, value_missin
 use Rattle.asp_parser.proofs.constant_table.ConstantTable.value.Goals as goal
 
 pub term_of-requires : goal.term_of-requires
-term_of-requires c = found_known _ (bytes_eq c.args.name.now) c.self.inside.values.entries c.in-Some.id c.self.invariant (sym c.id_of.ensures ∙ c.in-Some.is)
+term_of-requires c = found_known _ (bytes_eq c.args.name.now) c.self.inside.values.entries c.in-Some.id c.self.invariant.held (sym c.id_of.ensures ∙ c.in-Some.is)
 
 pub returns-in_ok-term_of-in-Some : goal.returns-in_ok-term_of-in-Some
 returns-in_ok-term_of-in-Some c =
