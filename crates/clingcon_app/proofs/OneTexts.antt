@@ -2,6 +2,7 @@
 use Rattle.std.proofs.Common.{◌≡◌, ◌⊎◌, ℕ, zero, suc, ◌+◌, ◌<◌, ◌≤◌, ◌^◌, List, [], ◌∷◌, length, take, slice_get, Some, None, IsSome, IfSome, true, false, refl, sym, ◌∙◌, ap, subst, inl, inr, arith}
 use Rattle.std.specs.List.{AllByRecursion}
 use Rattle.std.specs.declared.option.Option.{Option}
+use Rattle.outside_io.specs.Outputs.{Input}
 use Rattle.clingcon_app.specs.Texts.{size_of, AreSmall, AreTold, AreTexts, IsTooLarge}
 use Rattle.clingcon_app.proofs.OneConstants.{one_some}
 
@@ -50,90 +51,100 @@ not_large (Some told) text before there is (inl large) small few =
 not_large (Some told) text before there is (inr large) small few =
     let same : length text ≡ length told = ap length is in omega (arith, same, large, few)
 
-module _ {F : Type 0} (text_of : F → List ℕ → Option (List ℕ)) where
-  -- each name has a text that is told
-  abbrev AreAllTold : F → List (List ℕ) → Type 0
-  AreAllTold files names = AllByRecursion (λ name. IsSome (text_of files name)) names
+-- each name has a text that is told
+abbrev AreAllTold : Input → List (List ℕ) → Type 0
+AreAllTold files names = AllByRecursion (λ name. IsSome (files.text name)) names
 
-  same_told : (files : F) (names texts others : List (List ℕ)) → AreAllTold files names → AreTold text_of files names texts
-      → AreTold text_of files names others → texts ≡ others
-  same_told files [] [] [] all are are_too = refl
-  same_told files [] [] (other ∷ others) all are are_too = absurd are_too
-  same_told files [] (text ∷ texts) others all are are_too = absurd are
-  same_told files (name ∷ names) [] others all are are_too = absurd are
-  same_told files (name ∷ names) (text ∷ texts) [] all are are_too = absurd are_too
-  same_told files (name ∷ names) (text ∷ texts) (other ∷ others) all are are_too =
-      λ i. one_told (text_of files name) text other all.0 are.0 are_too.0 i ∷ same_told files names texts others all.1 are.1 are_too.1 i
+same_told : (files : Input) (names texts others : List (List ℕ)) → AreAllTold files names → AreTold files names texts
+    → AreTold files names others → texts ≡ others
+same_told files [] [] [] all are are_too = refl
+same_told files [] [] (other ∷ others) all are are_too = absurd are_too
+same_told files [] (text ∷ texts) others all are are_too = absurd are
+same_told files (name ∷ names) [] others all are are_too = absurd are
+same_told files (name ∷ names) (text ∷ texts) [] all are are_too = absurd are_too
+same_told files (name ∷ names) (text ∷ texts) (other ∷ others) all are are_too =
+    λ i. one_told (files.text name) text other all.0 are.0 are_too.0 i ∷ same_told files names texts others all.1 are.1 are_too.1 i
 
-  -- the texts under names are one
-  pub one_texts : (files : F) (names texts others : List (List ℕ)) → AreAllTold files names → AreTexts text_of files names texts
-      → AreTexts text_of files names others → texts ≡ others
-  one_texts files names texts others all are are_too = same_told files names texts others all are.told are_too.told
+-- the texts under names are one
+pub one_texts : (files : Input) (names texts others : List (List ℕ)) → AreAllTold files names → AreTexts files names texts
+    → AreTexts files names others → texts ≡ others
+one_texts files names texts others all are are_too = same_told files names texts others all are.told are_too.told
 
-  -- the text of a name among the texts, behind those of the names before it
-  record IsAmong (files : F) (texts before : List (List ℕ)) (name : List ℕ) : Type 0 where
-    pub text : List ℕ
-    pub there : IsSome (text_of files name)
-    pub told : IfSome (text_of files name) (λ told. text ≡ told)
-    pub small : AreSmall texts → length text ≤ 2 ^ 24
-    pub few : size_of before + length text ≤ size_of texts
+-- the text of a name among the texts, behind those of the names before it
+record IsAmong (files : Input) (texts before : List (List ℕ)) (name : List ℕ) : Type 0 where
+  pub text : List ℕ
+  pub there : IsSome (files.text name)
+  pub told : IfSome (files.text name) (λ told. text ≡ told)
+  pub small : AreSmall texts → length text ≤ 2 ^ 24
+  pub few : size_of before + length text ≤ size_of texts
 
-  among : (files : F) (names texts before : List (List ℕ)) (name : List ℕ) → AreAllTold files names → AreTold text_of files names texts
-      → AreTold text_of files (take (length before) names) before → slice_get names (length before) ≡ Some name → IsAmong files texts before name
-  among files [] texts before name all are front here = cc
-  among files (first ∷ names) [] before name all are front here = absurd are
-  among files (first ∷ names) (text ∷ texts) [] name all are front here =
-      let same : first ≡ name = cc in record {
-        text = text;
-        there = subst (λ (n : List ℕ). IsSome (text_of files n)) same all.0;
-        told = subst (λ (n : List ℕ). IfSome (text_of files n) (λ told. text ≡ told)) same are.0;
-        small = λ small. small.0;
-        few = omega arith;
-      }
-  among files (first ∷ names) (text ∷ texts) (one ∷ before) name all are front here =
-      let rest = among files names texts before name all.1 are.1 front.1 here in
-      let same : length text ≡ length one = ap length (one_told (text_of files first) text one all.0 are.0 front.0) in
-      let less : size_of before + length rest.text ≤ size_of texts = rest.few in
-      record {
-        text = rest.text;
-        there = rest.there;
-        told = rest.told;
-        small = λ small. rest.small small.1;
-        few = omega (arith, same, less);
-      }
+among : (files : Input) (names texts before : List (List ℕ)) (name : List ℕ) → AreAllTold files names → AreTold files names texts
+    → AreTold files (take (length before) names) before → slice_get names (length before) ≡ Some name → IsAmong files texts before name
+among files [] texts before name all are front here = cc
+among files (first ∷ names) [] before name all are front here = absurd are
+among files (first ∷ names) (text ∷ texts) [] name all are front here =
+    let same : first ≡ name = cc in record {
+      text = text;
+      there = subst (λ (n : List ℕ). IsSome (files.text n)) same all.0;
+      told = subst (λ (n : List ℕ). IfSome (files.text n) (λ told. text ≡ told)) same are.0;
+      small = λ small. small.0;
+      few = omega arith;
+    }
+among files (first ∷ names) (text ∷ texts) (one ∷ before) name all are front here =
+    let rest = among files names texts before name all.1 are.1 front.1 here in
+    let same : length text ≡ length one = ap length (one_told (files.text first) text one all.0 are.0 front.0) in
+    let less : size_of before + length rest.text ≤ size_of texts = rest.few in
+    record {
+      text = rest.text;
+      there = rest.there;
+      told = rest.told;
+      small = λ small. rest.small small.1;
+      few = omega (arith, same, less);
+    }
 
-  -- no text is too large where the texts have permitted sizes
-  none_large : (files : F) (names texts before : List (List ℕ)) (name : List ℕ) → AreAllTold files names → AreTexts text_of files names texts
-      → AreTold text_of files (take (length before) names) before → slice_get names (length before) ≡ Some name
-      → IfSome (text_of files name) (λ text. (2 ^ 24 < length text) ⊎ (2 ^ 26 < size_of before + length text)) → ⊥
-  none_large files names texts before name all are front here large =
-      let one = among files names texts before name all are.told front here in
-      let less : size_of before + length one.text ≤ size_of texts = one.few in
-      let few : size_of texts ≤ 2 ^ 26 = are.few in
-      not_large (text_of files name) one.text before one.there one.told large (one.small are.small) (omega (arith, less, few))
+-- a text of which so many bytes were taken is as long at least
+long_enough : (o : Option (List ℕ)) (taken : ℕ) (before : List (List ℕ)) → (2 ^ 24 < taken) ⊎ (2 ^ 26 < size_of before + taken) → IfSome o (λ told. taken ≤ length told)
+    → IfSome o (λ told. (2 ^ 24 < length told) ⊎ (2 ^ 26 < size_of before + length told))
+long_enough None taken before large told = tt
+long_enough (Some text) taken before (inl large) told = inl (omega (arith, large, told))
+long_enough (Some text) taken before (inr large) told = inr (omega (arith, large, told))
 
-  pub none_too_large : (files : F) (names texts : List (List ℕ)) (name : List ℕ) → AreAllTold files names → AreTexts text_of files names texts
-      → IsTooLarge text_of files names name → ⊥
-  none_too_large files names texts name all are large =
-      none_large files names texts large.before name all are large.texts.told large.here large.large
+large_there : (files : Input) (names : List (List ℕ)) (taken : ℕ) (name : List ℕ) → (large : IsTooLarge files names taken name)
+    → IfSome (files.text name) (λ text. (2 ^ 24 < length text) ⊎ (2 ^ 26 < size_of large.before + length text))
+large_there files names taken name large = long_enough (files.text name) taken large.before large.large large.told
 
-  -- no text is too large before the first that is
-  none_before : (files : F) (names : List (List ℕ)) (name other : List ℕ) → AreAllTold files names → (a : IsTooLarge text_of files names name)
-      → (b : IsTooLarge text_of files names other) → length a.before < length b.before → ⊥
-  none_before files names name other all a b below =
-      none_large files (take (length b.before) names) b.before a.before name
-      (all_of_front (λ name. IsSome (text_of files name)) names (length b.before) all)
-      b.texts
-      (subst (λ (l : List (List ℕ)). AreTold text_of files l a.before) (sym (front_of_front names (length a.before) (length b.before) below)) a.texts.told)
-      (item_of_front names (length a.before) (length b.before) below ∙ a.here)
-      a.large
+-- no text is too large where the texts have permitted sizes
+none_large : (files : Input) (names texts before : List (List ℕ)) (name : List ℕ) → AreAllTold files names → AreTexts files names texts
+    → AreTold files (take (length before) names) before → slice_get names (length before) ≡ Some name
+    → IfSome (files.text name) (λ text. (2 ^ 24 < length text) ⊎ (2 ^ 26 < size_of before + length text)) → ⊥
+none_large files names texts before name all are front here large =
+    let one = among files names texts before name all are.told front here in
+    let less : size_of before + length one.text ≤ size_of texts = one.few in
+    let few : size_of texts ≤ 2 ^ 26 = are.few in
+    not_large (files.text name) one.text before one.there one.told large (one.small are.small) (omega (arith, less, few))
 
-  -- the first text that is too large is one
-  pub one_too_large : (files : F) (names : List (List ℕ)) (name other : List ℕ) → AreAllTold files names → IsTooLarge text_of files names name
-      → IsTooLarge text_of files names other → name ≡ other
-  one_too_large files names name other all a b = go (order_of (length a.before) (length b.before))
-    where
-      go : (length a.before < length b.before) ⊎ (length a.before ≡ length b.before) ⊎ (length b.before < length a.before) → name ≡ other
-      go (inl less) = absurd (none_before files names name other all a b less)
-      go (inr (inl same)) = one_some (slice_get names (length b.before)) name other (ap (slice_get names) (sym same) ∙ a.here) b.here
-      go (inr (inr more)) = absurd (none_before files names other name all b a more)
+pub none_too_large : (files : Input) (names texts : List (List ℕ)) (taken : ℕ) (name : List ℕ) → AreAllTold files names → AreTexts files names texts
+    → IsTooLarge files names taken name → ⊥
+none_too_large files names texts taken name all are large =
+    none_large files names texts large.before name all are large.texts.told large.here (large_there files names taken name large)
+
+-- no text is too large before the first that is
+none_before : (files : Input) (names : List (List ℕ)) (m n : ℕ) (name other : List ℕ) → AreAllTold files names → (a : IsTooLarge files names m name)
+    → (b : IsTooLarge files names n other) → length a.before < length b.before → ⊥
+none_before files names m n name other all a b below =
+    none_large files (take (length b.before) names) b.before a.before name
+    (all_of_front (λ name. IsSome (files.text name)) names (length b.before) all)
+    b.texts
+    (subst (λ (l : List (List ℕ)). AreTold files l a.before) (sym (front_of_front names (length a.before) (length b.before) below)) a.texts.told)
+    (item_of_front names (length a.before) (length b.before) below ∙ a.here)
+    (large_there files names m name a)
+
+-- the first text that is too large is one
+pub one_too_large : (files : Input) (names : List (List ℕ)) (m n : ℕ) (name other : List ℕ) → AreAllTold files names → IsTooLarge files names m name
+    → IsTooLarge files names n other → name ≡ other
+one_too_large files names m n name other all a b = go (order_of (length a.before) (length b.before))
+  where
+    go : (length a.before < length b.before) ⊎ (length a.before ≡ length b.before) ⊎ (length b.before < length a.before) → name ≡ other
+    go (inl less) = absurd (none_before files names m n name other all a b less)
+    go (inr (inl same)) = one_some (slice_get names (length b.before)) name other (ap (slice_get names) (sym same) ∙ a.here) b.here
+    go (inr (inr more)) = absurd (none_before files names n m other name all b a more)

@@ -1,8 +1,9 @@
 -- What the top call's outcomes rest on.
-use Rattle.std.proofs.Common.{◌≡◌, ℕ, ◌⊎◌, List, take, true, false, IfOk, refl, sym, subst, inl, inr, arith}
+use Rattle.std.proofs.Common.{◌≡◌, ℕ, ◌+◌, ◌⊎◌, ◌==◌, ◌&&◌, nat_le, if◌then◌else◌, List, length, true, false, IfOk, refl, sym, ◌∙◌, ap, subst, inl, inr, arith}
 use Rattle.std.specs.Prelude.{String}
 use Rattle.std.specs.Global.{Global}
-use Rattle.std.specs.declared.option.Option.{Option}
+use Rattle.outside_io.specs.Outputs.{Input, Output}
+use Rattle.outside_io.specs.Told.{AppendsSome}
 use Rattle.std.specs.declared.result.Result.{Result}
 use Rattle.std.specs.declared.result.Result.TheVariants.{Ok, Err}
 use Rattle.std.specs.Io.KnownBytes.{Appends}
@@ -11,9 +12,9 @@ use Rattle.clingcon_app.specs.declared.answering.Verdict.{Verdict}
 use Rattle.clingcon_app.specs.declared.answering.Verdict.TheVariants.{Answer, Refused, NotBuilt}
 use Rattle.clingcon_app.specs.Words.{are_files, names_of}
 use Rattle.clingcon_app.specs.Texts.{AreTexts, AreRefused, IsTooLarge, IsProgram, too_large_line}
-use Rattle.clingcon_app.specs.Printed.{PrintTexts, AreOther, not_built}
-use Rattle.clingcon_app.specs.Stops.{IsJudged, IsVerdict}
-use Rattle.clingcon_app.specs.Outcome.{IsEnding, IsPrinted, IsEnded, IsCutOff}
+use Rattle.clingcon_app.specs.Printed.{PrintTexts, AreOther, not_built, satisfiable}
+use Rattle.clingcon_app.specs.Stops.{IsJudged, IsVerdict, PrintsFront}
+use Rattle.clingcon_app.specs.Outcome.{IsEnding, IsPrinted, IsEnded, IsCutOff, IsUnprinted}
 
 -- what is printed for the program of texts is printed for them
 pub verdict-from : (names texts : List (List ℕ)) (program : Program) (v : Verdict) → IsProgram texts program → IsJudged program v → IsVerdict names texts v
@@ -38,43 +39,57 @@ only-want status want (inr (inr is)) (inr (inl data_fault)) = absurd (omega (ari
 only-want status want (inr (inr is)) (inr (inr (inl large))) = absurd (omega (arith, is, large))
 only-want status want (inr (inr is)) (inr (inr (inr unbuilt))) = absurd (omega (arith, is, unbuilt))
 
-module _ {F : Type 0} (text_of : F → List ℕ → Option (List ℕ)) where
-  pub printed-unnamed : (files : F) (words : List (String Global)) (line : List ℕ) → are_files words ≡ false → line ≡ not_built
-      → IsPrinted text_of 71 files words line
-  printed-unnamed files words line unnamed is = inr (inr (inr (refl, inr (unnamed, is))))
+pub printed-unnamed : (files : Input) (taken : ℕ) (words : List (String Global)) (line : List ℕ) → are_files words ≡ false → line ≡ not_built
+    → IsPrinted 71 files taken words line
+printed-unnamed files taken words line unnamed is = inr (inr (inr (refl, inr (unnamed, is))))
 
-  pub printed-unbuilt : (files : F) (words : List (String Global)) (texts : List (List ℕ)) (line : List ℕ) → are_files words ≡ true
-      → AreTexts text_of files (names_of words) texts → AreOther texts → line ≡ not_built → IsPrinted text_of 71 files words line
-  printed-unbuilt files words texts line named are other is =
-      inr (inr (inr (refl, inl (record { named = named; texts = texts; are = are; says = (other, is) }))))
+pub printed-unbuilt : (files : Input) (taken : ℕ) (words : List (String Global)) (texts : List (List ℕ)) (line : List ℕ) → are_files words ≡ true
+    → AreTexts files (names_of words) texts → AreOther texts → line ≡ not_built → IsPrinted 71 files taken words line
+printed-unbuilt files taken words texts line named are other is =
+    inr (inr (inr (refl, inl (record { named = named; texts = texts; are = are; says = (other, is) }))))
 
-  pub printed-answer : (files : F) (words : List (String Global)) (texts : List (List ℕ)) (line : List ℕ) → are_files words ≡ true
-      → AreTexts text_of files (names_of words) texts → PrintTexts texts line → IsPrinted text_of 10 files words line
-  printed-answer files words texts line named are prints = inl (refl, record { named = named; texts = texts; are = are; says = prints })
+pub printed-answer : (files : Input) (taken : ℕ) (words : List (String Global)) (texts : List (List ℕ)) (line : List ℕ) → are_files words ≡ true
+    → AreTexts files (names_of words) texts → PrintTexts texts line → IsPrinted 10 files taken words line
+printed-answer files taken words texts line named are prints = inl (refl, record { named = named; texts = texts; are = are; says = prints })
 
-  pub printed-refused : (files : F) (words : List (String Global)) (texts : List (List ℕ)) (line : List ℕ) → are_files words ≡ true
-      → AreTexts text_of files (names_of words) texts → AreRefused (names_of words) texts line → IsPrinted text_of 65 files words line
-  printed-refused files words texts line named are refused = inr (inl (refl, record { named = named; texts = texts; are = are; says = refused }))
+pub printed-refused : (files : Input) (taken : ℕ) (words : List (String Global)) (texts : List (List ℕ)) (line : List ℕ) → are_files words ≡ true
+    → AreTexts files (names_of words) texts → AreRefused (names_of words) texts line → IsPrinted 65 files taken words line
+printed-refused files taken words texts line named are refused = inr (inl (refl, record { named = named; texts = texts; are = are; says = refused }))
 
-  pub printed-large : (files : F) (words : List (String Global)) (name : List ℕ) → are_files words ≡ true
-      → IsTooLarge text_of files (names_of words) name → IsPrinted text_of 70 files words (too_large_line name)
-  printed-large files words name named large = inr (inr (inl (refl, record { named = named; name = name; large = large; line = refl })))
+pub printed-large : (files : Input) (taken : ℕ) (words : List (String Global)) (name : List ℕ) → are_files words ≡ true
+    → IsTooLarge files (names_of words) taken name → IsPrinted 70 files taken words (too_large_line name)
+printed-large files taken words name named large = inr (inr (inl (refl, record { named = named; name = name; large = large; line = refl })))
 
-module _ {F O : Type 0} (text_of : F → List ℕ → Option (List ℕ)) (written : O → Option (List ℕ)) where
-  pub ended-by : (status want : ℕ) (files : F) (words : List (String Global)) (before after : O) (line : List ℕ)
-      → IsPrinted text_of want files words line → (status ≡ want) ⊎ (status ≡ 33) ⊎ (status ≡ 67)
-      → (status ≡ want → Appends (written before) (written after) line) → IsEnding status
-      → IsEnded text_of written status files words before after
-  ended-by status want files words before after line right which grew ends =
-      let same : status ≡ want = only-want status want which ends in
-      record { printed = line; right = subst (λ (s : ℕ). IsPrinted text_of s files words line) (sym same) right; appended = grew same }
+pub ended-by : (status want : ℕ) (files : Input) (taken : ℕ) (words : List (String Global)) (before after : Output) (line : List ℕ)
+    → IsPrinted want files taken words line → (status ≡ want) ⊎ (status ≡ 33) ⊎ (status ≡ 67)
+    → (status ≡ want → Appends before.written after.written line) → IsEnding status → IsEnded status files taken words before after
+ended-by status want files taken words before after line right which grew ends =
+    let same : status ≡ want = only-want status want which ends in
+    record { printed = line; right = subst (λ (s : ℕ). IsPrinted s files taken words line) (sym same) right; appended = grew same }
 
-  pub cut-by : (want : ℕ) (files : F) (words : List (String Global)) (before after : O) (line : List ℕ) → IsPrinted text_of want files words line
-      → (count : ℕ) × Appends (written before) (written after) (take count line) → IsCutOff text_of written files words before after
-  cut-by want files words before after line right grew = inr (want, line, grew.0, right, grew.1)
+-- a front of what is printed was written, and no block is counted where none is printed
+pub cut-by : (want : ℕ) (files : Input) (taken : ℕ) (words : List (String Global)) (before after : Output) (line : List ℕ) (answers : ℕ)
+    → IsPrinted want files taken words line → (want == 10) ≡ false → AppendsSome before.written after.written line → answers ≡ 0
+    → IsUnprinted before after answers ⊎ IsCutOff files taken words before after answers
+cut-by want files taken words before after line answers right other grew none = inr (record {
+  status = want;
+  printed = line;
+  right = right;
+  count = grew.0;
+  front = grew.1;
+  blocks = none ∙ sym (ap (λ b. if b && nat_le (length line) (grew.0 + length satisfiable) then 1 else 0) other);
+})
 
-  pub cut-maybe : (want : ℕ) (files : F) (words : List (String Global)) (before after : O) (line : List ℕ) → IsPrinted text_of want files words line
-      → (written after ≡ written before) ⊎ ((count : ℕ) × Appends (written before) (written after) (take count line))
-      → IsCutOff text_of written files words before after
-  cut-maybe want files words before after line right (inl same) = inl same
-  cut-maybe want files words before after line right (inr grew) = cut-by want files words before after line right grew
+pub cut-maybe : (want : ℕ) (files : Input) (taken : ℕ) (words : List (String Global)) (before after : Output) (line : List ℕ) (answers : ℕ)
+    → IsPrinted want files taken words line → (want == 10) ≡ false → (after.written ≡ before.written) ⊎ AppendsSome before.written after.written line → answers ≡ 0
+    → IsUnprinted before after answers ⊎ IsCutOff files taken words before after answers
+cut-maybe want files taken words before after line answers right other (inl same) none = inl (record { written = same; none = none })
+cut-maybe want files taken words before after line answers right other (inr grew) none =
+    cut-by want files taken words before after line answers right other grew none
+
+-- a front of the one answer was written, with its block or a part of it
+pub cut-answer : (files : Input) (taken : ℕ) (words : List (String Global)) (before after : Output) (line : List ℕ) (answers : ℕ)
+    → IsPrinted 10 files taken words line → PrintsFront before.written after.written line answers
+    → IsUnprinted before after answers ⊎ IsCutOff files taken words before after answers
+cut-answer files taken words before after line answers right grew =
+    inr (record { status = 10; printed = line; right = right; count = grew.count; front = grew.front; blocks = grew.blocks })

@@ -6,6 +6,7 @@ use Rattle.std.specs.String.{string_bytes}
 use Rattle.std.proofs.lemmas.Bool.Decides.{nat_tests}
 use Rattle.clingcon_app.specs.Words.{are_files, names_of}
 use Rattle.std.specs.declared.option.Option.{Option}
+use Rattle.outside_io.specs.Outputs.{Input}
 use Rattle.clingcon_app.specs.Texts.{size_of, AreSmall, AreTold}
 use Rattle.std.proofs.lemmas.List.{length-append, length-map}
 
@@ -25,22 +26,21 @@ take-more (y ∷ ys) (suc k) x here = ap (λ l. y ∷ l) (take-more ys k x here)
 pub take-one-more : {X : Type 0} (xs : List X) (k : ℕ) (x : X) → slice_get xs k ≡ Some x → take (k + 1) xs ≡ take k xs ++ x ∷ []
 take-one-more xs k x here = let next : k + 1 ≡ suc k = omega arith in ap (λ n. take n xs) next ∙ take-more xs k x here
 
-module _ {F : Type 0} (text_of : F → List ℕ → Option (List ℕ)) where
-  pub told-push : (files : F) (names texts : List (List ℕ)) (name text : List ℕ) → AreTold text_of files names texts
-      → IfSome (text_of files name) (λ told. text ≡ told) → AreTold text_of files (names ++ name ∷ []) (texts ++ text ∷ [])
-  told-push files [] [] name text told one = (one, tt)
-  told-push files [] (t ∷ texts) name text told one = absurd told
-  told-push files (n ∷ names) [] name text told one = absurd told
-  told-push files (n ∷ names) (t ∷ texts) name text told one = (told.0, told-push files names texts name text told.1 one)
+pub told-push : (files : Input) (names texts : List (List ℕ)) (name text : List ℕ) → AreTold files names texts
+    → IfSome (files.text name) (λ told. text ≡ told) → AreTold files (names ++ name ∷ []) (texts ++ text ∷ [])
+told-push files [] [] name text told one = (one, tt)
+told-push files [] (t ∷ texts) name text told one = absurd told
+told-push files (n ∷ names) [] name text told one = absurd told
+told-push files (n ∷ names) (t ∷ texts) name text told one = (told.0, told-push files names texts name text told.1 one)
 
-  -- one text more is that of the next name
-  pub told-more : (files : F) (names texts after : List (List ℕ)) (name text : List ℕ) (at : ℕ) → AreTold text_of files (take at names) texts
-      → slice_get names at ≡ Some name → IfSome (text_of files name) (λ told. text ≡ told) → after ≡ texts ++ text ∷ []
-      → AreTold text_of files (take (at + 1) names) after
-  told-more files names texts after name text at told named one grew =
-      subst (λ (l : List (List ℕ)). AreTold text_of files l after) (sym (take-one-more names at name named))
-      (subst (λ (l : List (List ℕ)). AreTold text_of files (take at names ++ name ∷ []) l) (sym grew)
-      (told-push files (take at names) texts name text told one))
+-- one text more is that of the next name
+pub told-more : (files : Input) (names texts after : List (List ℕ)) (name text : List ℕ) (at : ℕ) → AreTold files (take at names) texts
+    → slice_get names at ≡ Some name → IfSome (files.text name) (λ told. text ≡ told) → after ≡ texts ++ text ∷ []
+    → AreTold files (take (at + 1) names) after
+told-more files names texts after name text at told named one grew =
+    subst (λ (l : List (List ℕ)). AreTold files l after) (sym (take-one-more names at name named))
+    (subst (λ (l : List (List ℕ)). AreTold files (take at names ++ name ∷ []) l) (sym grew)
+    (told-push files (take at names) texts name text told one))
 
 pub small-more : (texts after : List (List ℕ)) (text : List ℕ) → AreSmall texts → length text ≤ 2 ^ 24 → after ≡ texts ++ text ∷ [] → AreSmall after
 small-more texts after text small one grew = subst AreSmall (sym grew) (small-push texts text small one)
@@ -58,12 +58,11 @@ count-more texts after text at count grew = ap length grew ∙ length-append tex
 pub told-same : (f g : List ℕ → Option (List ℕ)) (name : List ℕ) (P : List ℕ → Type 0) → f ≡ g → IfSome (f name) P → IfSome (g name) P
 told-same f g name P same holds = subst (λ (h : List ℕ → Option (List ℕ)). IfSome (h name) P) same holds
 
-module _ {F : Type 0} (text_of : F → List ℕ → Option (List ℕ)) where
-  pub length-told : (files : F) (names texts : List (List ℕ)) → AreTold text_of files names texts → length texts ≡ length names
-  length-told files [] [] told = refl
-  length-told files [] (t ∷ texts) told = absurd told
-  length-told files (n ∷ names) [] told = absurd told
-  length-told files (n ∷ names) (t ∷ texts) told = ap suc (length-told files names texts told.1)
+pub length-told : (files : Input) (names texts : List (List ℕ)) → AreTold files names texts → length texts ≡ length names
+length-told files [] [] told = refl
+length-told files [] (t ∷ texts) told = absurd told
+length-told files (n ∷ names) [] told = absurd told
+length-told files (n ∷ names) (t ∷ texts) told = ap suc (length-told files names texts told.1)
 
 both : (a b : Bool) → (a && b) ≡ true → a ≡ true
 both true b holds = refl

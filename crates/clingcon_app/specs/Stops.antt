@@ -1,6 +1,8 @@
 -- What the code gives on its way, and why it stops. Only the crate's own code reads this file.
-use Rattle.std.specs.Prelude.{◌≡◌, ℕ, ◌<◌, List, ◌++◌, slice_get, Some, Result, Ok, Err}
+use Rattle.std.specs.Prelude.{◌≡◌, ℕ, ◌<◌, List, ◌++◌, take, slice_get, Some, Result, Ok, Err}
 use Rattle.std.specs.declared.option.Option.{Option}
+use Rattle.std.specs.Io.KnownBytes.{Appends}
+use Rattle.outside_io.specs.Outputs.{Input}
 use Rattle.syntax_tree.specs.declared.statement.Program.{Program}
 use Rattle.first_form.specs.Form.{SymbolRule, States}
 use Rattle.clingcon_app.specs.declared.answering.Verdict.{Verdict}
@@ -13,12 +15,14 @@ use Rattle.clingcon_app.specs.declared.parsing.ProgramStop.{ProgramStop}
 use Rattle.clingcon_app.specs.declared.parsing.ProgramStop.TheVariants as refusal
 use Rattle.clingcon_app.specs.Texts.{IsTooLarge, HasFirstFault, AreRefused}
 use Rattle.clingcon_app.specs.Printed.{PrintsAnswer, PrintTexts, AreOther, satisfiable}
+use Rattle.clingcon_app.specs.Outcome.{blocks_in}
 
 -- ---- stops
-abbrev pub IsStoppedBy : {F : Type 0} → (F → List ℕ → Option (List ℕ)) → F → List (List ℕ) → TextsStop → Type 0
-IsStoppedBy text_of files names stop.Failed = Unit {0}
-IsStoppedBy text_of files names (stop.TooLarge at) = (name : List ℕ) → slice_get names at ≡ Some name → IsTooLarge text_of files names name
-IsStoppedBy text_of files names stop.Memory = Unit {0}
+-- a text is named too large only where it is the first, and so many bytes of it were taken
+abbrev pub IsStoppedBy : Input → List (List ℕ) → ℕ → TextsStop → Type 0
+IsStoppedBy files names taken stop.Failed = Unit {0}
+IsStoppedBy files names taken (stop.TooLarge at) = (name : List ℕ) → slice_get names at ≡ Some name → IsTooLarge files names taken name
+IsStoppedBy files names taken stop.Memory = Unit {0}
 
 -- the number of a text that is too large is that of one of the texts
 abbrev pub IsNumbered : ℕ → TextsStop → Type 0
@@ -53,3 +57,10 @@ abbrev pub IsJudged : Program → Verdict → Type 0
 IsJudged program (verdict.Answer block) = (stated : List SymbolRule) × States program.statements stated × PrintsAnswer stated (block ++ satisfiable)
 IsJudged program (verdict.Refused line) = ⊥
 IsJudged program verdict.NotBuilt = (stated : List SymbolRule) → States program.statements stated → ⊥
+
+-- ---- outputs
+-- a front of what is printed at status 10 was written, and so many blocks stand whole in it
+pub record PrintsFront (before now : Option (List ℕ)) (printed : List ℕ) (answers : ℕ) : Type 0 where
+  pub count : ℕ
+  pub front : Appends before now (take count printed)
+  pub blocks : answers ≡ blocks_in 10 printed count

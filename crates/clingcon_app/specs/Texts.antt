@@ -1,7 +1,7 @@
 -- What the texts of the inputs say together: their statements, or the first refusal.
 use Rattle.std.specs.Prelude.{◌≡◌, ℕ, ◌+◌, ◌<◌, ◌≤◌, ◌^◌, ◌⊎◌, List, [], ◌∷◌, ◌++◌, length, replicate, take, slice_get, Some, IfSome, codes}
 use Rattle.std.specs.Fmt.{decimal}
-use Rattle.std.specs.declared.option.Option.{Option}
+use Rattle.outside_io.specs.Outputs.{Input}
 use Rattle.lexer.specs.Places.{line_of, column_of}
 use Rattle.syntax_tree.specs.declared.statement.Statement.{Statement}
 use Rattle.syntax_tree.specs.declared.statement.Program.{Program}
@@ -22,26 +22,26 @@ abbrev pub AreSmall : List (List ℕ) → Type 0
 AreSmall [] = Unit {0}
 AreSmall (text ∷ texts) = (length text ≤ 2 ^ 24) × AreSmall texts
 
-module _ {F : Type 0} (text_of : F → List ℕ → Option (List ℕ)) where
-  -- these are the texts under the names, where they are told
-  abbrev pub AreTold : F → List (List ℕ) → List (List ℕ) → Type 0
-  AreTold files [] [] = Unit {0}
-  AreTold files [] (text ∷ texts) = ⊥
-  AreTold files (name ∷ names) [] = ⊥
-  AreTold files (name ∷ names) (text ∷ texts) = IfSome (text_of files name) (λ told. text ≡ told) × AreTold files names texts
+-- these are the texts under the names, where they are told
+abbrev pub AreTold : Input → List (List ℕ) → List (List ℕ) → Type 0
+AreTold files [] [] = Unit {0}
+AreTold files [] (text ∷ texts) = ⊥
+AreTold files (name ∷ names) [] = ⊥
+AreTold files (name ∷ names) (text ∷ texts) = IfSome (files.text name) (λ told. text ≡ told) × AreTold files names texts
 
-  -- the texts of the inputs: each of a permitted size, and all of them together
-  pub record AreTexts (files : F) (names : List (List ℕ)) (texts : List (List ℕ)) : Type 0 where
-    pub told : AreTold files names texts
-    pub small : AreSmall texts
-    pub few : size_of texts ≤ 2 ^ 26
+-- the texts of the inputs: each of a permitted size, and all of them together
+pub record AreTexts (files : Input) (names : List (List ℕ)) (texts : List (List ℕ)) : Type 0 where
+  pub told : AreTold files names texts
+  pub small : AreSmall texts
+  pub few : size_of texts ≤ 2 ^ 26
 
-  -- the text of this name is the first that has more than 16 MiB, or with which the texts have more than 64 MiB
-  pub record IsTooLarge (files : F) (names : List (List ℕ)) (name : List ℕ) : Type 0 where
-    pub before : List (List ℕ)
-    pub here : slice_get names (length before) ≡ Some name
-    pub texts : AreTexts files (take (length before) names) before
-    pub large : IfSome (text_of files name) (λ text. (2 ^ 24 < length text) ⊎ (2 ^ 26 < size_of before + length text))
+-- the text of this name is the first that has more than 16 MiB, or with which the texts have more than 64 MiB: so many bytes of it were taken
+pub record IsTooLarge (files : Input) (names : List (List ℕ)) (taken : ℕ) (name : List ℕ) : Type 0 where
+  pub before : List (List ℕ)
+  pub here : slice_get names (length before) ≡ Some name
+  pub texts : AreTexts files (take (length before) names) before
+  pub large : (2 ^ 24 < taken) ⊎ (2 ^ 26 < size_of before + taken)
+  pub told : IfSome (files.text name) (λ text. taken ≤ length text)
 
 -- ---- parsing
 -- the statements of each text

@@ -21,4 +21,3 @@ mod words;
 
 pub use law::one_outcome;
 pub use running::{Report, run};
-

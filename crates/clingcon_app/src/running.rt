@@ -1,17 +1,19 @@
 // The top call and its statuses.
-ghost use Rattle.std.specs.Prelude.{◌≡◌, ◌⊎◌, ◌↔◌, ◌≤◌, ◌++◌, ℕ, length, take, None, OnOk, OnErr, IsErrOf};
+ghost use Rattle.std.specs.Prelude.{◌≡◌, ◌⊎◌, ◌↔◌, ◌++◌, None};
 ghost use Rattle.std.specs.Io.KnownBytes.{Appends};
 ghost use Rattle.outside_io.specs.Faults.{RisesWhere};
-ghost use Rattle.outside_io.specs.Told.{FlushesAll};
-ghost use Rattle.clingcon_app.specs.Outcome.{IsCutOff, IsEnded, IsEnding, IsRefusing, IsStatus};
+ghost use Rattle.outside_io.specs.Outputs.{IsUntouched};
+ghost use Rattle.outside_io.specs.Told.{AppendsSome, FlushesAll};
+ghost use Rattle.clingcon_app.specs.Outcome.{IsCutOff, IsEnded, IsEnding, IsRefusing, IsStatus, IsUnprinted};
 ghost use Rattle.clingcon_app.specs.Printed.{satisfiable};
+ghost use Rattle.clingcon_app.specs.Stops.{PrintsFront};
 ghost use Rattle.clingcon_app.specs.Texts as texts;
 
 use crate::answering::{Verdict, verdict_of};
 use crate::refusing::too_large_line;
 use crate::texts::{TextsStop, read_texts};
 use crate::words::{are_files, name_at};
-use outside_io::{Files, OutFault, Sink, write_all};
+use outside_io::{Files, OutFault, Sink, write_all, write_last};
 use std::alloc::Global;
 use symbols::Memory;
 
@@ -49,17 +51,19 @@ pub fn run<F: Files, O: Sink, D: Sink>(
     ensures statuses { IsStatus result.status }
 
     // Each status has its cause; want of memory, 33, is the one free answer.
-    ensures ended { IsEnding result.status → IsEnded F.text O.written result.status files.old words.now out.old out.new }
-    ensures read { RisesWhere (result.status ≡ 66) (F.faults files.old) (F.faults files.new) }
-    ensures wrote { RisesWhere (result.status ≡ 67) (O.faults out.old) (O.faults out.new) }
+    ensures ended { IsEnding result.status → IsEnded result.status (F.tells files.old) (F.tells files.new).taken words.now (O.tells out.old) (O.tells out.new) }
+    ensures read { RisesWhere (result.status ≡ 66) (F.tells files.old).faults (F.tells files.new).faults }
+    ensures wrote { RisesWhere (result.status ≡ 67) (O.tells out.old).faults (O.tells out.new).faults }
 
     // What stands on the output: all of it flushed, or nothing, or a front of what was to be printed.
-    ensures flushed { IsEnding result.status → FlushesAll (O.written out.new) (O.flushed out.new) }
-    ensures nothing { result.status ≡ 66 → O.written out.new ≡ O.written out.old }
-    ensures front { (result.status ≡ 33) ⊎ (result.status ≡ 67) → IsCutOff F.text O.written files.old words.now out.old out.new }
-    ensures opened { O.opened out.new ≡ O.opened out.old }
+    ensures flushed { IsEnding result.status → FlushesAll (O.tells out.new).written (O.tells out.new).flushed }
+    ensures nothing { result.status ≡ 66 → IsUntouched (O.tells out.old) (O.tells out.new) }
+    ensures front { (result.status ≡ 33) ⊎ (result.status ≡ 67) → IsUnprinted (O.tells out.old) (O.tells out.new) result.answers
+        ⊎ IsCutOff (F.tells files.old) (F.tells files.new).taken words.now (O.tells out.old) (O.tells out.new) result.answers }
+    ensures opened { (O.tells out.new).opened ≡ (O.tells out.old).opened }
     ensures unused { proof.new ≡ proof.old }
 
+    // What is reported: the blocks that were written whole, at 33 and 67 too.
     ensures answers { result.status ≡ 10 → result.answers ≡ 1 }
     ensures no_answer { (result.status ≡ 65) ⊎ (result.status ≡ 66) ⊎ (result.status ≡ 70) ⊎ (result.status ≡ 71) → result.answers ≡ 0 }
     ensures conflicts { result.conflicts ≡ 0 }
@@ -111,33 +115,18 @@ fn stopped(fault: OutFault, answers: u64) -> Report
     }
 }
 
-// Writes the last piece and flushes all.
-fn write_last<O: Sink>(out: &mut O, piece: &[u8]) -> Result<(), OutFault>
-    ensures whole { OnOk result (Appends (O.written out.old) (O.written out.new) piece.now) }
-    ensures flushed { OnOk result (FlushesAll (O.written out.new) (O.flushed out.new)) }
-    ensures front { OnErr result ((count : ℕ) × Appends (O.written out.old) (O.written out.new) (take count piece.now)) }
-    ensures names { O.opened out.new ≡ O.opened out.old }
-    ensures cause { RisesWhere (IsErrOf result OutFault.Failed) (O.faults out.old) (O.faults out.new) }
-{
-    match write_all(out, piece) {
-        Ok(()) => {}
-        Err(fault) => return Err(fault),
-    }
-    out.flush()
-}
-
 // Prints the line of a refusal, and ends with its status.
 fn refuse<O: Sink>(out: &mut O, status: u8, line: &[u8]) -> Report
     requires { IsRefusing status }
     ensures statuses { (result.status ≡ status) ⊎ (result.status ≡ 33) ⊎ (result.status ≡ 67) }
-    ensures whole { result.status ≡ status → Appends (O.written out.old) (O.written out.new) line.now }
-    ensures flushed { result.status ≡ status → FlushesAll (O.written out.new) (O.flushed out.new) }
-    ensures front { (result.status ≡ 33) ⊎ (result.status ≡ 67) → (count : ℕ) × Appends (O.written out.old) (O.written out.new) (take count line.now) }
-    ensures names { O.opened out.new ≡ O.opened out.old }
+    ensures whole { result.status ≡ status → Appends (O.tells out.old).written (O.tells out.new).written line.now }
+    ensures flushed { result.status ≡ status → FlushesAll (O.tells out.new).written (O.tells out.new).flushed }
+    ensures front { (result.status ≡ 33) ⊎ (result.status ≡ 67) → AppendsSome (O.tells out.old).written (O.tells out.new).written line.now }
+    ensures names { (O.tells out.new).opened ≡ (O.tells out.old).opened }
     ensures answers { result.answers ≡ 0 }
     ensures conflicts { result.conflicts ≡ 0 }
     ensures best { result.best ≡ None }
-    ensures cause { RisesWhere (result.status ≡ 67) (O.faults out.old) (O.faults out.new) }
+    ensures cause { RisesWhere (result.status ≡ 67) (O.tells out.old).faults (O.tells out.new).faults }
 {
     match write_last(out, line) {
         Ok(()) => ended(status, 0),
@@ -148,14 +137,14 @@ fn refuse<O: Sink>(out: &mut O, status: u8, line: &[u8]) -> Report
 // Prints the refusal of a text that is too large.
 fn refuse_size<O: Sink>(alloc: Global, out: &mut O, name: &str) -> Report
     ensures statuses { (result.status ≡ 70) ⊎ (result.status ≡ 33) ⊎ (result.status ≡ 67) }
-    ensures whole { result.status ≡ 70 → Appends (O.written out.old) (O.written out.new) (texts.too_large_line name.now) }
-    ensures flushed { result.status ≡ 70 → FlushesAll (O.written out.new) (O.flushed out.new) }
-    ensures front { (result.status ≡ 33) ⊎ (result.status ≡ 67) → (O.written out.new ≡ O.written out.old) ⊎ ((count : ℕ) × Appends (O.written out.old) (O.written out.new) (take count (texts.too_large_line name.now))) }
-    ensures names { O.opened out.new ≡ O.opened out.old }
+    ensures whole { result.status ≡ 70 → Appends (O.tells out.old).written (O.tells out.new).written (texts.too_large_line name.now) }
+    ensures flushed { result.status ≡ 70 → FlushesAll (O.tells out.new).written (O.tells out.new).flushed }
+    ensures front { (result.status ≡ 33) ⊎ (result.status ≡ 67) → ((O.tells out.new).written ≡ (O.tells out.old).written) ⊎ AppendsSome (O.tells out.old).written (O.tells out.new).written (texts.too_large_line name.now) }
+    ensures names { (O.tells out.new).opened ≡ (O.tells out.old).opened }
     ensures answers { result.answers ≡ 0 }
     ensures conflicts { result.conflicts ≡ 0 }
     ensures best { result.best ≡ None }
-    ensures cause { RisesWhere (result.status ≡ 67) (O.faults out.old) (O.faults out.new) }
+    ensures cause { RisesWhere (result.status ≡ 67) (O.tells out.old).faults (O.tells out.new).faults }
 {
     match too_large_line(alloc, name) {
         Ok(line) => refuse(out, 70, line.items()),
@@ -166,15 +155,14 @@ fn refuse_size<O: Sink>(alloc: Global, out: &mut O, name: &str) -> Report
 // Prints the block of the one answer, and the line of the ending.
 fn print_answer<O: Sink>(out: &mut O, block: &[u8]) -> Report
     ensures statuses { (result.status ≡ 10) ⊎ (result.status ≡ 33) ⊎ (result.status ≡ 67) }
-    ensures whole { result.status ≡ 10 → Appends (O.written out.old) (O.written out.new) (block.now ++ satisfiable) }
-    ensures flushed { result.status ≡ 10 → FlushesAll (O.written out.new) (O.flushed out.new) }
-    ensures front { (result.status ≡ 33) ⊎ (result.status ≡ 67) → (count : ℕ)
-        × Appends (O.written out.old) (O.written out.new) (take count (block.now ++ satisfiable)) }
-    ensures names { O.opened out.new ≡ O.opened out.old }
+    ensures whole { result.status ≡ 10 → Appends (O.tells out.old).written (O.tells out.new).written (block.now ++ satisfiable) }
+    ensures flushed { result.status ≡ 10 → FlushesAll (O.tells out.new).written (O.tells out.new).flushed }
+    ensures front { (result.status ≡ 33) ⊎ (result.status ≡ 67) → PrintsFront (O.tells out.old).written (O.tells out.new).written (block.now ++ satisfiable) result.answers }
+    ensures names { (O.tells out.new).opened ≡ (O.tells out.old).opened }
     ensures answers { result.status ≡ 10 → result.answers ≡ 1 }
     ensures conflicts { result.conflicts ≡ 0 }
     ensures best { result.best ≡ None }
-    ensures cause { RisesWhere (result.status ≡ 67) (O.faults out.old) (O.faults out.new) }
+    ensures cause { RisesWhere (result.status ≡ 67) (O.tells out.old).faults (O.tells out.new).faults }
 {
     match write_all(out, block) {
         Ok(()) => {}

@@ -32,10 +32,10 @@ pub(crate) fn read_texts<F: Files>(
     words: &[String],
     files: &mut F,
 ) -> Result<Listed<Listed<u8>>, TextsStop>
-    ensures texts { IfOk result (AreTexts F.text files.old (names_of words.now)) }
-    ensures stop { IfErr result (IsStoppedBy F.text files.old (names_of words.now)) }
+    ensures texts { IfOk result (AreTexts (F.tells files.old) (names_of words.now)) }
+    ensures stop { IfErr result (IsStoppedBy (F.tells files.old) (names_of words.now) (F.tells files.new).taken) }
     ensures number { IfErr result (IsNumbered (length (names_of words.now))) }
-    ensures cause { RisesWhere (IsErrOf result TextsStop.Failed) (F.faults files.old) (F.faults files.new) }
+    ensures cause { RisesWhere (IsErrOf result TextsStop.Failed) (F.tells files.old).faults (F.tells files.new).faults }
 {
     let mut texts = Listed::new(alloc);
     let mut room = MOST_IN_ALL;

@@ -1,5 +1,6 @@
 pub mod Faults
 pub mod Told
+pub mod Outputs
 pub mod Held
 pub mod Stops
 pub mod Numbered

@@ -22,6 +22,10 @@ AddsName (Some before) now name = now ≡ Some (before ++ name ∷ [])
 abbrev pub AppendsFront : (before now : Option (List ℕ)) (piece : List ℕ) → Type 0
 AppendsFront before now piece = (count : ℕ) × (count < length piece) × Appends before now (take count piece)
 
+-- a front of the piece was written, maybe all of it
+abbrev pub AppendsSome : (before now : Option (List ℕ)) (piece : List ℕ) → Type 0
+AppendsSome before now piece = (count : ℕ) × Appends before now (take count piece)
+
 -- all that was written is flushed
 abbrev pub FlushesAll : (written : Option (List ℕ)) (flushed : Option ℕ) → Type 0
 FlushesAll None flushed = ⊤

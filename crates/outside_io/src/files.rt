@@ -1,9 +1,9 @@
 // Named inputs: one is open at a time, and is read from its front to its end.
-ghost use Rattle.std.specs.Prelude.{◌≡◌, ◌+◌, List, ℕ, OnOk, OnErr, IfOk, IsErrOf};
-ghost use Rattle.std.specs.declared.option.Option.{Option};
+ghost use Rattle.std.specs.Prelude.{◌≡◌, ◌+◌, OnOk, OnErr, IfOk, IsErrOf};
 ghost use Rattle.std.specs.Io.{ReadsAtMost};
 ghost use Rattle.std.specs.Io.KnownBytes.{ReadConsumes};
 ghost use Rattle.outside_io.specs.Faults.{RisesWhere};
+ghost use Rattle.outside_io.specs.Outputs.{Input, IsUnread};
 ghost use Rattle.outside_io.specs.Told.{LeavesAll};
 
 use symbols::Memory;
@@ -29,33 +29,25 @@ impl From<Memory> for OutFault {
 
 /// Inputs that are opened by name.
 pub trait Files {
-    /// The bytes held under a name, where they are told.
-    ghost text: { Self → List ℕ → Option (List ℕ) };
-
-    /// The bytes of the open input that are still to be read, where they are told.
-    ghost left: { Self → Option (List ℕ) };
-
-    /// How many bytes were read since the last opening.
-    ghost taken: { Self → ℕ };
-
-    /// How many calls have failed.
-    ghost faults: { Self → ℕ };
+    /// What they tell: the text under each name, what is left and how much was read of the open one, and how many
+    /// calls have failed.
+    ghost tells: { Self → Input };
 
     /// Opens the input of this name, to be read from its front.
     fn open_file(&mut self, name: &str) -> Result<(), OutFault>
-        ensures opened { OnOk result (LeavesAll (text self.old name.now) (left self.new)) }
-        ensures untaken { OnOk result (taken self.new ≡ 0) }
-        ensures texts { text self.new ≡ text self.old }
-        ensures refused { OnErr result ((left self.new ≡ left self.old) × (taken self.new ≡ taken self.old)) }
-        ensures cause { RisesWhere (IsErrOf result OutFault.Failed) (faults self.old) (faults self.new) };
+        ensures opened { OnOk result (LeavesAll ((tells self.old).text name.now) (tells self.new).left) }
+        ensures untaken { OnOk result ((tells self.new).taken ≡ 0) }
+        ensures texts { (tells self.new).text ≡ (tells self.old).text }
+        ensures refused { OnErr result (IsUnread (tells self.old) (tells self.new)) }
+        ensures cause { RisesWhere (IsErrOf result OutFault.Failed) (tells self.old).faults (tells self.new).faults };
 
     /// Reads a front of what is left into the front of the buffer: at least one byte where the buffer
     /// has room and any byte is left.
     fn read(&mut self, buf: &mut [u8]) -> Result<usize, OutFault>
         ensures bound { ReadsAtMost result buf.new }
-        ensures bytes { ReadConsumes (left self.old) (left self.new) result buf.new }
-        ensures counted { IfOk result (λ count. taken self.new ≡ taken self.old + count) }
-        ensures texts { text self.new ≡ text self.old }
-        ensures refused { OnErr result ((left self.new ≡ left self.old) × (taken self.new ≡ taken self.old)) }
-        ensures cause { RisesWhere (IsErrOf result OutFault.Failed) (faults self.old) (faults self.new) };
+        ensures bytes { ReadConsumes (tells self.old).left (tells self.new).left result buf.new }
+        ensures counted { IfOk result (λ count. (tells self.new).taken ≡ (tells self.old).taken + count) }
+        ensures texts { (tells self.new).text ≡ (tells self.old).text }
+        ensures refused { OnErr result (IsUnread (tells self.old) (tells self.new)) }
+        ensures cause { RisesWhere (IsErrOf result OutFault.Failed) (tells self.old).faults (tells self.new).faults };
 }

@@ -25,7 +25,7 @@ pub struct HostFiles<'a, R: rt::Files + Input> {
 impl<'a, R: rt::Files + Input> HostFiles<'a, R> {
     /// No file is open yet: nothing is left to read.
     pub fn new(rt: &'a R) -> HostFiles<'a, R>
-        ensures { ⟦<HostFiles<'a, R> as Files>⟧.faults result ≡ 0 }
+        ensures { (⟦<HostFiles<'a, R> as Files>⟧.tells result).faults ≡ 0 }
     {
         HostFiles {
             rt,
@@ -37,13 +37,7 @@ impl<'a, R: rt::Files + Input> HostFiles<'a, R> {
 }
 
 impl<'a, R: rt::Files + Input> Files for HostFiles<'a, R> {
-    ghost text = { λ m name. None };
-
-    ghost left = { λ m. None };
-
-    ghost taken = { λ m. m.taken };
-
-    ghost faults = { λ m. m.faults };
+    ghost tells = { λ m. record { text = λ name. None; left = None; taken = m.taken; faults = m.faults } };
 
     fn open_file(&mut self, name: &str) -> Result<(), OutFault> {
         if name == "-" {

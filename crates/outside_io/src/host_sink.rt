@@ -26,7 +26,7 @@ pub struct HostSink<'a, R: rt::Files + Print> {
 impl<'a, R: rt::Files + Print> HostSink<'a, R> {
     /// Standard output, or an output that keeps nothing until it is opened.
     pub fn new(rt: &'a R, standard: bool) -> HostSink<'a, R>
-        ensures { ⟦<HostSink<'a, R> as Sink>⟧.faults result ≡ 0 }
+        ensures { (⟦<HostSink<'a, R> as Sink>⟧.tells result).faults ≡ 0 }
     {
         let target = if standard {
             Target::Standard
@@ -42,13 +42,7 @@ impl<'a, R: rt::Files + Print> HostSink<'a, R> {
 }
 
 impl<'a, R: rt::Files + Print> Sink for HostSink<'a, R> {
-    ghost written = { λ m. None };
-
-    ghost flushed = { λ m. None };
-
-    ghost opened = { λ m. None };
-
-    ghost faults = { λ m. m.faults };
+    ghost tells = { λ m. record { written = None; flushed = None; opened = None; faults = m.faults } };
 
     fn open_sink(&mut self, name: Option<&str>) -> Result<(), OutFault> {
         let Some(name) = name else {

@@ -52,13 +52,7 @@ impl MemoryFiles {
 impl Files for MemoryFiles {
     ghost use Rattle.outside_io.specs.MemoryFiles.{calls_of, text_of, left_of, taken_of};
 
-    ghost text = { text_of };
-
-    ghost left = { λ files. Some (left_of files) };
-
-    ghost taken = { taken_of };
-
-    ghost faults = { λ files. (calls_of files).faults };
+    ghost tells = { λ files. record { text = text_of files; left = Some (left_of files); taken = taken_of files; faults = (calls_of files).faults } };
 
     fn open_file(&mut self, name: &str) -> Result<(), OutFault>
         ensures counted { CountsCall (calls_of self.old) (calls_of self.new) }

@@ -65,13 +65,7 @@ impl MemorySink {
 impl Sink for MemorySink {
     ghost use Rattle.outside_io.specs.MemorySink.{calls_of, written_of, flushed_of, names_of};
 
-    ghost written = { λ sink. Some (written_of sink) };
-
-    ghost flushed = { λ sink. Some (flushed_of sink) };
-
-    ghost opened = { λ sink. Some (names_of sink) };
-
-    ghost faults = { λ sink. (calls_of sink).faults };
+    ghost tells = { λ sink. record { written = Some (written_of sink); flushed = Some (flushed_of sink); opened = Some (names_of sink); faults = (calls_of sink).faults } };
 
     fn open_sink(&mut self, name: Option<&str>) -> Result<(), OutFault>
         ensures counted { CountsCall (calls_of self.old) (calls_of self.new) }

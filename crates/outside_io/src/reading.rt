@@ -1,7 +1,8 @@
 // Reading a whole text.
-ghost use Rattle.std.specs.Prelude.{◌≡◌, ◌≤◌, ◌<◌, length, IfOk, OnOk, IfSome, IsErrOf};
+ghost use Rattle.std.specs.Prelude.{◌≡◌, ◌≤◌, ◌<◌, ◌⊎◌, length, IfOk, OnOk, IfSome, IsErrOf};
 ghost use Rattle.std.specs.Io.KnownBytes.{IsAtEnd};
 ghost use Rattle.outside_io.specs.Faults.{RisesWhere};
+ghost use Rattle.outside_io.specs.Outputs.{IsUnread};
 
 use crate::files::{Files, OutFault};
 use std::alloc::Global;
@@ -53,14 +54,20 @@ pub fn read_text<F: Files>(
     name: &str,
     most: usize,
 ) -> Result<Listed<u8>, ReadStop>
-    ensures whole { IfOk result (λ read. IfSome (F.text files.old name.now) (λ text. read ≡ text)) }
-    ensures ended { OnOk result (IsAtEnd (F.left files.new)) }
-    ensures taken { IfOk result (λ read. F.taken files.new ≡ length read) }
+    // The whole text of the name, and no more is left.
+    ensures whole { IfOk result (λ read. IfSome ((F.tells files.old).text name.now) (λ text. read ≡ text)) }
+    ensures ended { OnOk result (IsAtEnd (F.tells files.new).left) }
+    ensures taken { IfOk result (λ read. (F.tells files.new).taken ≡ length read) }
     ensures within { IfOk result (λ read. length read ≤ most) }
-    ensures too_large { IsErrOf result ReadStop.TooLarge → most < F.taken files.new }
-    ensures too_long { IsErrOf result ReadStop.TooLarge → IfSome (F.text files.old name.now) (λ text. most < length text) }
-    ensures texts { F.text files.new ≡ F.text files.old }
-    ensures cause { RisesWhere (IsErrOf result ReadStop.Failed) (F.faults files.old) (F.faults files.new) }
+
+    // Too large exactly where more bytes were taken than are allowed, which no longer text can hide.
+    ensures too_large { IsErrOf result ReadStop.TooLarge → most < (F.tells files.new).taken }
+    ensures too_long { IsErrOf result ReadStop.TooLarge → IfSome ((F.tells files.old).text name.now) (λ text. (F.tells files.new).taken ≤ length text) }
+    ensures stopped { IsErrOf result ReadStop.Failed ⊎ IsErrOf result ReadStop.Memory
+        → ((F.tells files.new).taken ≤ most) ⊎ IsUnread (F.tells files.old) (F.tells files.new) }
+
+    ensures texts { (F.tells files.new).text ≡ (F.tells files.old).text }
+    ensures cause { RisesWhere (IsErrOf result ReadStop.Failed) (F.tells files.old).faults (F.tells files.new).faults }
 {
     files.open_file(name)?;
     let mut text = Listed::new(alloc);

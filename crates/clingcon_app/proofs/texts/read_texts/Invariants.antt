@@ -6,12 +6,12 @@ use Rattle.clingcon_app.proofs.texts.read_texts.Given as goal
 -- what was read so far are the first texts, the room is what they leave, and nothing has failed
 abbrev pub invariant-loop-at : goal.invariant-loop-at
 invariant-loop-at g l =
-    let files = g.F.Files in
+    let tells = g.F.Files.tells in
     record {
       room : l.room + size_of l.texts ≡ 2 ^ 26;
       count : length l.texts ≡ l.at;
-      told : AreTold files.text l.fn.files (take l.at (names_of l.words)) l.texts;
+      told : AreTold (tells l.fn.files) (take l.at (names_of l.words)) l.texts;
       small : AreSmall l.texts;
-      text : files.text l.files ≡ files.text l.fn.files;
-      faults : files.faults l.files ≡ files.faults l.fn.files;
+      text : (tells l.files).text ≡ (tells l.fn.files).text;
+      faults : (tells l.files).faults ≡ (tells l.fn.files).faults;
     }

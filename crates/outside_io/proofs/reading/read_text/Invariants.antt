@@ -5,13 +5,13 @@ use Rattle.outside_io.proofs.reading.read_text.Given as goal
 -- what was read so far is the front of the text, and nothing has failed
 abbrev pub invariant-loop-text : goal.invariant-loop-text
 invariant-loop-text g l =
-    let files = g.F.Files in
+    let tells = g.F.Files.tells in
     record {
-      front : Consumes (files.text l.fn.files l.fn.name) (files.left l.files) l.text;
-      taken : files.taken l.files ≡ length l.text;
+      front : Consumes ((tells l.fn.files).text l.fn.name) (tells l.files).left l.text;
+      taken : (tells l.files).taken ≡ length l.text;
       within : length l.text ≤ l.most;
-      texts : files.text l.files ≡ files.text l.fn.files;
-      faults : files.faults l.files ≡ files.faults l.fn.files;
+      texts : (tells l.files).text ≡ (tells l.fn.files).text;
+      faults : (tells l.files).faults ≡ (tells l.fn.files).faults;
     }
 
 abbrev pub decreases-loop-text : goal.decreases-loop-text

@@ -5,13 +5,13 @@ use Rattle.outside_io.proofs.writing.write_all.Given as goal
 -- a front of the piece was written, and nothing has failed
 abbrev pub invariant-loop-at : goal.invariant-loop-at
 invariant-loop-at g l =
-    let sink = g.S.Sink in
+    let tells = g.S.Sink.tells in
     record {
-      front : Appends (sink.written l.fn.sink) (sink.written l.sink) (take l.at l.piece);
+      front : Appends (tells l.fn.sink).written (tells l.sink).written (take l.at l.piece);
       within : l.at ≤ length l.piece;
-      flushed : sink.flushed l.sink ≡ sink.flushed l.fn.sink;
-      names : sink.opened l.sink ≡ sink.opened l.fn.sink;
-      faults : sink.faults l.sink ≡ sink.faults l.fn.sink;
+      flushed : (tells l.sink).flushed ≡ (tells l.fn.sink).flushed;
+      names : (tells l.sink).opened ≡ (tells l.fn.sink).opened;
+      faults : (tells l.sink).faults ≡ (tells l.fn.sink).faults;
     }
 
 abbrev pub decreases-loop-at : goal.decreases-loop-at
