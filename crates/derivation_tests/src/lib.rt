@@ -1,0 +1,10 @@
+//! Tests of derivations: their lines, and what becomes of a worked derivation where a line is changed.
+//!
+//! A crate of tests alone, so that `derivation` and `derivation_meaning` are proved once. Programs are texts
+//! of `ground_examples`.
+#![tactic(auto)]
+
+#[cfg(test)]
+mod lines;
+#[cfg(test)]
+mod worked;
