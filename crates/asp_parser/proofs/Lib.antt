@@ -22,3 +22,4 @@ pub mod TextTurns
 pub mod TextRules
 pub mod ShowReads
 pub mod FormReads
+pub mod StopLemmas
