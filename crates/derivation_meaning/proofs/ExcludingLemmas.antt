@@ -1,5 +1,8 @@
 -- The list that an answer leaves is a nogood.
-use Rattle.std.proofs.Common.{◌≡◌, ◌<◌, ◌≤◌, ◌^◌, ◌*◌, ℕ, zero, suc, ◌+◌, ◌-◌, nat_lt, Bool, true, false, ℤ, pos, neg_ℤ, ◌≤ℤ◌, List, [], ◌∷◌, ◌++◌, map, length, slice_index_or, refl, ◌∙◌, ap, arith, All}
+use Rattle.std.proofs.Common.{◌≡◌, ◌<◌, ◌≤◌, ◌^◌, ◌*◌, ℕ, zero, suc, ◌+◌, ◌-◌, ◌==◌, nat_lt, Bool, true, false, ◌||◌, ℤ, pos, neg_ℤ, ◌≤ℤ◌, List, [], ◌∷◌, ◌++◌, drop, map, length, slice_index, slice_index_or, refl, sym, ◌∙◌, ap, subst, true≢false, arith, All}
+use Rattle.std.specs.Int.{from_bool}
+use Rattle.std.proofs.Math.ListN.{drop_of_length-le}
+use Rattle.std.proofs.lemmas.Bool.{eqb-true, ne_eqb}
 use Rattle.std.specs.List.{AllByRecursion, flat_map, range_with_len}
 use Rattle.std.proofs.lemmas.Int.{ints}
 use Rattle.std.proofs.lemmas.Bool.Decides.{nat_tests}
@@ -15,8 +18,9 @@ use Rattle.literals.proofs.Puts.{joined-nil, rises_from_steps}
 use Rattle.symbols.specs.declared.ends.Ends.{Ends}
 use Rattle.ground_model.specs.declared.answer.Answer.{Answer}
 use Rattle.ground_model.specs.declared.program.GroundProgram.{GroundProgram}
-use Rattle.ground_model.specs.Answers.{has_atom, value_at, IsWithin, IsValuation}
-use Rattle.ground_model.proofs.Bools.{and_intro}
+use Rattle.ground_model.specs.Answers.{ascend_from, has_atom, value_at, IsWithin, IsValuation}
+use Rattle.ground_model.proofs.Bools.{and_elim, and_intro}
+use Rattle.ground_model.proofs.Products.{drop_next}
 use Rattle.linear_normal.proofs.ListLemmas.{all_append}
 use Rattle.completion.proofs.RowLemmas.{range_end}
 use Rattle.derivation_meaning.specs.Lines.{value_lits, answer_nogood}
@@ -130,3 +134,97 @@ answer_literals program answer valuation =
   where
     sizes : (m k : ℕ) → k ≡ m → 1 + m ≤ k + 1
     sizes m k e = omega (arith, e)
+
+-- ONE WALK
+
+above_none : (low a : ℕ) (atoms : List ℕ) → ascend_from low atoms ≡ true → a ≤ low → has_atom atoms a ≡ false
+above_none low a [] up below = refl
+above_none low a (b ∷ rest) up below =
+    let p = and_elim (nat_lt low b) (ascend_from b rest) up in
+    rw (other low a b p.0 below) (above_none b a rest p.1 (more low a b p.0 below))
+  where
+    more : (low a b : ℕ) → nat_lt low b ≡ true → a ≤ low → a ≤ b
+    more low a b up below = grind (arith, nat_tests)
+
+    other : (low a b : ℕ) → nat_lt low b ≡ true → a ≤ low → (b == a) ≡ false
+    other low a b up below = grind (arith, nat_tests)
+
+or_false : (b : Bool) → (b || false) ≡ b
+or_false true = refl
+or_false false = refl
+
+-- the first of ascending atoms is alone in not being above it
+head_alone : (x atom : ℕ) (rest : List ℕ) → ascend_from (atom - 1) (x ∷ rest) ≡ true → has_atom (x ∷ rest) atom ≡ (x == atom)
+head_alone x atom rest up =
+    let p = and_elim (nat_lt (atom - 1) x) (ascend_from x rest) up in
+    rw (above_none x atom rest p.1 (least x atom p.0)) (or_false (x == atom))
+  where
+    least : (x atom : ℕ) → nat_lt (atom - 1) x ≡ true → atom ≤ x
+    least x atom h = grind (arith, nat_tests)
+
+-- whether the next atom is this one
+pub next_is : (atoms : List ℕ) (next atom : ℕ) → ascend_from (atom - 1) (drop next atoms) ≡ true → next < length atoms
+    → has_atom (drop next atoms) atom ≡ (slice_index atoms next == atom)
+next_is atoms next atom up below =
+    let is = drop_next atoms next 0 below in
+    let up : ascend_from (atom - 1) (slice_index atoms next ∷ drop (next + 1) atoms) ≡ true = subst (λ (rest : List ℕ). ascend_from (atom - 1) rest ≡ true) is up in
+    ap (λ (rest : List ℕ). has_atom rest atom) is ∙ head_alone (slice_index atoms next) atom (drop (next + 1) atoms) up
+
+pub none_is_next : (atoms : List ℕ) (next atom : ℕ) → length atoms ≤ next → has_atom (drop next atoms) atom ≡ false
+none_is_next atoms next atom above = ap (λ (rest : List ℕ). has_atom rest atom) (drop_of_length-le atoms above)
+
+-- the atoms from here on are those above this number, and for these they tell as much as all
+pub record IsWalk (atoms : List ℕ) (at next : ℕ) : Type 0 where
+  pub above : ascend_from at (drop next atoms) ≡ true
+  pub same : (a : ℕ) → at < a → has_atom atoms a ≡ has_atom (drop next atoms) a
+
+pub walk_start : (atoms : List ℕ) → ascend_from 0 atoms ≡ true → IsWalk atoms 0 0
+walk_start atoms up = record { above = up; same = λ a above. refl }
+
+-- past an atom that was there
+pub walk_true : (atoms : List ℕ) (at next : ℕ) → IsWalk atoms at next → next < length atoms → has_atom (drop next atoms) (at + 1) ≡ true → IsWalk atoms (at + 1) (next + 1)
+walk_true atoms at next w below there =
+    let is = drop_next atoms next 0 below in
+    let x : ℕ = slice_index atoms next in
+    let up : ascend_from at (x ∷ drop (next + 1) atoms) ≡ true = subst (λ (rest : List ℕ). ascend_from at rest ≡ true) is w.above in
+    let up' : ascend_from (at + 1 - 1) (x ∷ drop (next + 1) atoms) ≡ true = let e : at + 1 - 1 ≡ at = omega arith in rw e up in
+    let same : x ≡ at + 1 = eqb-true x (at + 1) (sym (head_alone x (at + 1) (drop (next + 1) atoms) up') ∙ ap (λ (rest : List ℕ). has_atom rest (at + 1)) (sym is) ∙ there) in
+    let p = and_elim (nat_lt at x) (ascend_from x (drop (next + 1) atoms)) up in
+    record {
+      above = subst (λ (n : ℕ). ascend_from n (drop (next + 1) atoms) ≡ true) same p.1;
+      same = λ a above.
+          w.same a (omega (arith, above)) ∙ ap (λ (rest : List ℕ). has_atom rest a) is
+          ∙ (let other : (x == a) ≡ false = ne_eqb x a (λ e. omega (arith, e, same, above)) in rw other refl);
+    }
+
+-- past an atom that was not there
+pub walk_false : (atoms : List ℕ) (at next : ℕ) → IsWalk atoms at next → has_atom (drop next atoms) (at + 1) ≡ false → IsWalk atoms (at + 1) next
+walk_false atoms at next w missing = record {
+  above = go (drop next atoms) w.above missing;
+  same = λ a above. w.same a (omega (arith, above));
+}
+  where
+    past : (at x : ℕ) → nat_lt at x ≡ true → (x == at + 1) ≡ false → nat_lt (at + 1) x ≡ true
+    past at x up other = grind (arith, nat_tests)
+
+    go : (rest : List ℕ) → ascend_from at rest ≡ true → has_atom rest (at + 1) ≡ false → ascend_from (at + 1) rest ≡ true
+    go [] up missing = refl
+    go (x ∷ rest) up missing =
+        let p = and_elim (nat_lt at x) (ascend_from x rest) up in
+        and_intro (nat_lt (at + 1) x) (ascend_from x rest) (past at x p.0 (neither (x == at + 1) (has_atom rest (at + 1)) missing)) p.1
+      where
+        neither : (b c : Bool) → (b || c) ≡ false → b ≡ false
+        neither true c e = absurd (true≢false e)
+        neither false c e = refl
+
+-- what one walk finds of the atom that comes next
+pub walk_tells : (atoms : List ℕ) (at next : ℕ) → IsWalk atoms at next → has_atom (drop next atoms) (at + 1) ≡ has_atom atoms (at + 1)
+walk_tells atoms at next w = sym (w.same (at + 1) (omega arith))
+
+-- past an atom
+pub walk_on : (atoms : List ℕ) (at next : ℕ) (there : Bool) → IsWalk atoms at next → next ≤ length atoms → (there ≡ true → next < length atoms)
+    → there ≡ has_atom (drop next atoms) (at + 1) → IsWalk atoms (at + 1) (next + from_bool there) × (next + from_bool there ≤ length atoms)
+walk_on atoms at next true w within below is = let b = below refl in (walk_true atoms at next w b (sym is), omega (arith, b))
+walk_on atoms at next false w within below is =
+    let same : next + 0 ≡ next = omega arith in
+    (subst (IsWalk atoms (at + 1)) (sym same) (walk_false atoms at next w (sym is)), omega (arith, within))

@@ -7,7 +7,7 @@ use Rattle.literals.specs.declared.lit.Lit.{Lit}
 use Rattle.literals.specs.declared.reason.Step.{Step}
 use Rattle.literals.specs.declared.reason.Step.TheVariants as step
 use Rattle.literals.specs.Truths.{Truths, Meets}
-use Rattle.literals.specs.Nogoods.{has_lit, answers, resolved, resolvent}
+use Rattle.literals.specs.Nogoods.{has_lit, answers, resolved, resolvent, resolved_with}
 use Rattle.literals.proofs.Worlds.{resolved_met, found_answers}
 use Rattle.ground_model.specs.declared.answer.Answer.{Answer}
 use Rattle.ground_model.specs.declared.program.GroundProgram.{GroundProgram}
@@ -23,7 +23,7 @@ use Rattle.completion.specs.Inputs.{input_nogoods}
 use Rattle.derivation.specs.declared.line.Line.{Line}
 use Rattle.derivation.specs.declared.line.Line.TheVariants as line
 use Rattle.derivation_meaning.specs.State.{Entry, State, held_from, start, nogood_in, live_nogood, cost_in, last_cost}
-use Rattle.derivation_meaning.specs.Lines.{answer_of, improves, Shown, resolved_with, chained}
+use Rattle.derivation_meaning.specs.Lines.{answer_of, improves, Shown, chained}
 use Rattle.derivation_meaning.specs.Valid.{IsShown, IsLearned, IsNewAnswer, IsBetterAnswer, IsValid, with_nogood, held_alone, with_answer, after}
 use Rattle.derivation_meaning.specs.Claims.{IsRemaining}
 use Rattle.derivation_meaning.proofs.AnswerLemmas.{answer_met}

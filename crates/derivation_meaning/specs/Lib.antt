@@ -1,12 +1,10 @@
+pub mod Found
 pub mod State
 pub mod Lines
 pub mod Valid
 pub mod Acceptance
 pub mod Claims
+pub mod Refusals
 pub mod Closure
 pub mod New
 pub mod Laws
-pub mod Sizes
-pub mod Counts
-pub mod View
-pub mod Replay

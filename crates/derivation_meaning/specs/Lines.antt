@@ -5,7 +5,7 @@ use Rattle.literals.specs.declared.lit.Lit.{Lit}
 use Rattle.literals.specs.declared.lit.Lit.TheVariants.{Atom, AtMost, AtLeast}
 use Rattle.literals.specs.declared.reason.Step.{Step}
 use Rattle.literals.specs.declared.reason.Step.TheVariants as step
-use Rattle.literals.specs.Nogoods.{resolvent}
+use Rattle.literals.specs.Nogoods.{chain}
 use Rattle.ground_model.specs.declared.answer.Answer.{Answer}
 use Rattle.ground_model.specs.declared.program.GroundProgram.{GroundProgram}
 use Rattle.ground_model.specs.Answers.{value_at, has_atom}
@@ -60,12 +60,6 @@ reason_of other = None
 
 -- CHAINS
 
--- two nogoods resolved at a pivot, where both are there
-abbrev pub resolved_with : Option (List Lit) → Lit → Option (List Lit) → Option (List Lit)
-resolved_with (Some left) pivot (Some right) = resolvent left pivot right
-resolved_with left pivot right = None
-
 -- the nogood so far, resolved at each pivot with the nogood of the id beside it
 abbrev pub chained : State → Option (List Lit) → List (Lit × ℕ) → Option (List Lit)
-chained state so_far [] = so_far
-chained state so_far (link ∷ links) = chained state (resolved_with so_far link.0 (live_nogood state link.1)) links
+chained state so_far links = chain (live_nogood state) so_far links

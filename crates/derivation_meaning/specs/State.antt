@@ -68,3 +68,11 @@ cost_in (Some best) = Some best.cost
 -- the cost of the last `o` line
 abbrev pub last_cost : State → Option ℤ
 last_cost state = cost_in state.best
+
+abbrev pub answer_in_best : Option Best → Option Answer
+answer_in_best None = None
+answer_in_best (Some best) = Some best.answer
+
+-- the answer of the last `o` line
+abbrev pub last_answer : State → Option Answer
+last_answer state = answer_in_best state.best

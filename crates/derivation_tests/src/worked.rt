@@ -5,8 +5,8 @@ ghost use Rattle.literals.specs.Nogoods.{IsNogood};
 ghost use Rattle.derivation.specs.Lists.{lits_of};
 
 use derivation::{Line, LineStop, read_line};
-use derivation_meaning::{Claim, accepted_claim};
 use ground_examples::program_of;
+use proof_checker::{Claim, accepted_claim};
 use std::alloc::Global;
 use std::test::Fail;
 use symbols::{Listed, Memory};

@@ -1,5 +1,5 @@
-use Rattle.derivation_meaning.proofs.LawProofs.{acceptance_law}
+use Rattle.derivation_meaning.proofs.LawProofs.{acceptance_law, fitting_law}
 use Rattle.derivation_meaning.proofs.laws.accepted_claims_hold.Goals as goal
 
 pub returns : goal.returns
-returns c = acceptance_law
+returns c = record { holds = acceptance_law; fits = fitting_law }

@@ -1,9 +1,0 @@
-use Rattle.std.proofs.Common.{◌≡◌, ◌+◌, drop}
-use Rattle.derivation_meaning.specs.Replay.{counts_from}
-use Rattle.derivation_meaning.proofs.answers.are_in_order.Given as goal
-
-abbrev pub invariant-loop-value : goal.invariant-loop-value
-invariant-loop-value l = record {
-  rest : counts_from l.next (drop l.value-index l.values) ≡ counts_from 1 l.values;
-  place : l.next ≡ l.value-index + 1;
-}

@@ -1,5 +1,0 @@
-use Rattle.std.proofs.Common.{◌≡◌, ◌++◌, map, drop}
-use Rattle.derivation_meaning.proofs.answers.values_of.Given as goal
-
-abbrev pub invariant-loop-value : goal.invariant-loop-value
-invariant-loop-value l = l.all ++ map (λ value. value.1) (drop l.value-index l.values) ≡ map (λ value. value.1) l.values
