@@ -18,8 +18,8 @@ returns-then-not-branch-clause-refused c =
     let kept = sym (to_z-of_z w128 c.args.cost c.ranges.cost) in
     let is = ap (objective_of c.args.program.now) c.in_ok-answer.ensures in
     let same : c.args.cost ≡ objective_of c.args.program.now (answer_of c.args.atoms.now c.args.values.now) =
-            kept ∙ c.is_cost_of.ensures.0 costs ∙ is in
+    kept ∙ c.is_cost_of.ensures.0 costs ∙ is in
     let smaller : improves (last_cost (state_of c.args.state.now)) c.args.cost ≡ true =
-            ap (λ last. improves last c.args.cost) (sym c.last_cost.ensures) ∙ ap (improves c.last_cost.result) kept ∙ sym c.improves.ensures ∙ falls in
+    ap (λ last. improves last c.args.cost) (sym c.last_cost.ensures) ∙ ap (improves c.last_cost.result) kept ∙ sym c.improves.ensures ∙ falls in
     better_no_model c.args.program.now (state_of c.args.state.now) c.args.atoms.now c.args.values.now c.requires c.args.cost kind same smaller
     (λ is. iff_false c.in_ok-is_answer_line.ensures gone is)
