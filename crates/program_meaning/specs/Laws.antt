@@ -36,7 +36,7 @@ use Rattle.program_meaning.specs.Outside.{IsVariableIn, HasLargeTotal, HasLargeV
 use Rattle.program_meaning.specs.Predicates.{Predicate, HasStep, GivesStep, IsRecursive}
 use Rattle.program_meaning.specs.Levels.{DecidesDependence, level, IsIn, IsClosedUnder, ReadsAtom}
 use Rattle.program_meaning.specs.Safety.{IsBoundInBody, IsBoundInCondition}
-use Rattle.program_meaning.specs.Search.{Node, Step, IsOf, IsPrepared, AreReady, searched, Finds, start, none_bound, bound_after_all, AreNumbered, IsHeld, IsStepOf, HasListed, HasItsVariables, globals_bound, start_with, Meets}
+use Rattle.program_meaning.specs.Search.{Node, Step, IsOf, IsPrepared, AreReady, searched, Finds, start, none_bound, bound_after_all, AreNumbered, IsHeld, IsStepOf, HasListed, HasItsVariables, is_listed, globals_bound, start_with, Meets}
 use Rattle.program_meaning.specs.Variables.{globals, element_locals, choice_locals}
 use Rattle.program_meaning.specs.Models.{IsModelOf, IsSameWorld, IsShaped, IsObjective}
 
@@ -127,6 +127,13 @@ SearchLaw =
     (literals : List PlainLiteral) (atoms : List Symbol) (count : ℕ) (before : ℕ → Bool) (steps : List Step) (node : Node) → IsApart atoms
     → IsPrepared count before node → AreReady literals count before steps → Finds literals atoms before steps node (searched atoms steps node)
 
+-- at each node that it finds, what its steps bind is bound, and nothing else
+abbrev pub PreparedLaw : Type 0
+PreparedLaw =
+    (literals : List PlainLiteral) (atoms : List Symbol) (count : ℕ) (before : ℕ → Bool) (steps : List Step) (node : Node) → IsApart atoms
+    → IsPrepared count before node → AreReady literals count before steps
+    → (leaf : Node) → IsMember (searched atoms steps node) leaf → IsPrepared count (bound_after_all steps before) leaf
+
 -- a search may start where nothing is bound
 abbrev pub StartLaw : Type 0
 StartLaw = (count : ℕ) → IsPrepared count none_bound (start count)
@@ -161,11 +168,11 @@ SafeConditionLaw =
     → (steps : List Step) × AllByRecursion (IsStepOf condition) steps × AreReady (plains rule.body ++ condition) (length rule.order) (globals_bound rule) steps
     × ((n : ℕ) → (IsMember locals n ⊎ (globals_bound rule n ≡ true)) → bound_after_all steps (globals_bound rule) n ≡ true)
 
--- a search for the instances of an element may start where the global variables have the values of an instance of its rule
+-- a search may start where some variables have values, as those of an element do where the global ones have those of an instance of its rule
 abbrev pub StartWithLaw : Type 0
 StartWithLaw =
-    (rule : ReadRule) (values : List Value) → AreNumbered (length rule.order) rule.order → length values ≡ length (globals rule)
-    → IsPrepared (length rule.order) (globals_bound rule) (start_with (length rule.order) (globals rule) values)
+    (count : ℕ) (variables : List ℕ) (values : List Value) → AreNumbered count variables → length values ≡ length variables
+    → IsPrepared count (is_listed variables) (start_with count variables values)
 
 -- the start stands for what the variables are worth in each instance of an element
 abbrev pub StartsLaw : Type 0

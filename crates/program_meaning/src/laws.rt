@@ -1,5 +1,5 @@
 // What follows from the definitions. Each function's contract is the law, and its body is empty.
-ghost use Rattle.program_meaning.specs.Laws.{OneLaw, PossibleLaw, SameModelsLaw, DownLaw, UpLaw, ObjectiveLaw, CountLaw, TuplesLaw, VariablesLaw, ClosedLaw, GrowsLaw, LevelLaw, FallLaw, SearchLaw, StartLaw, LeafLaw, SafeLaw, MeetsLaw, SafeConditionLaw, StartWithLaw, StartsLaw, LocalsLaw, LeafElementLaw, MeetsElementLaw, MeetsChoiceLaw, CollectedLaw, OrdinaryLaw, FormLaw, SoundTermLaw, SoundTuplesLaw, FewVariablesLaw, SoundRelationLaw, SoundValuesLaw};
+ghost use Rattle.program_meaning.specs.Laws.{OneLaw, PossibleLaw, SameModelsLaw, DownLaw, UpLaw, ObjectiveLaw, CountLaw, TuplesLaw, VariablesLaw, ClosedLaw, GrowsLaw, LevelLaw, FallLaw, SearchLaw, PreparedLaw, StartLaw, LeafLaw, SafeLaw, MeetsLaw, SafeConditionLaw, StartWithLaw, StartsLaw, LocalsLaw, LeafElementLaw, MeetsElementLaw, MeetsChoiceLaw, CollectedLaw, OrdinaryLaw, FormLaw, SoundTermLaw, SoundTuplesLaw, FewVariablesLaw, SoundRelationLaw, SoundValuesLaw};
 
 /// Two canonical ground programs of a program are equal, each id read as its symbol.
 pub fn canonical_programs_are_one()
@@ -47,7 +47,8 @@ pub fn levels_fall()
 
 /// A search for the instances of a rule or an element takes its steps one by one: some atom of a list for each
 /// positive literal, then by `=` a value for a variable that none of them binds, in an order in which the
-/// other side is bound. It finds exactly the values that meet all steps, each once (`search`); it may start
+/// other side is bound. It finds exactly the values that meet all steps, each once (`search`), and what its
+/// steps bind is bound at the nodes that it finds, and nothing else (`prepared`); it may start
 /// where nothing is bound (`start`); and a node at which all variables are bound stands for one substitution
 /// (`leaf`). A rule whose body binds its global variables has such steps (`safe`), and
 /// each of its relevant instances meets them over the possible atoms (`meets`).
@@ -56,6 +57,7 @@ pub fn levels_fall()
 /// comparison does not fail.
 pub fn searches_find_each_once()
     ensures search { SearchLaw }
+    ensures prepared { PreparedLaw }
     ensures start { StartLaw }
     ensures leaf { LeafLaw }
     ensures safe { SafeLaw }
@@ -63,8 +65,8 @@ pub fn searches_find_each_once()
 {}
 
 /// The same of the elements of a theory atom or a choice, whose conditions bind their local variables. A
-/// search for the instances of an element may start where the global variables have the values of an instance
-/// of its rule (`start`), and there it stands for each instance of the element under them (`stands`). A
+/// search may start where some variables have values (`start`), as those of an element do where the global
+/// variables have the values of an instance of its rule, and there it stands for each instance of the element under them (`stands`). A
 /// condition that binds its local variables has steps of its own, ready in their order from there (`safe`), and
 /// each relevant instance of an element meets them over the possible atoms (`element`, `choice`). By the law
 /// above each of them is then found once: global and local variables are different ones (`locals`), and a node
