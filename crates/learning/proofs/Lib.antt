@@ -1,0 +1,5 @@
+pub mod LinesProof
+pub mod ReasonLaws
+pub mod StateLaws
+pub mod LessonLaws
+pub mod ExplainedLaws
