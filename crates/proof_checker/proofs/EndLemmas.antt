@@ -1,7 +1,7 @@
 -- What a `q` line needs.
 use Rattle.std.proofs.Common.{◌≡◌, ◌≤◌, ℕ, true, ◌&&◌, ◌||◌, ℤ, List, [], ◌∷◌, map, length, None, Some, refl, ap}
 use Rattle.std.specs.List.{list_any}
-use Rattle.proof_checker.specs.declared.state.Live.{Live}
+use Rattle.proof_checker.specs.declared.live.Live.{Live}
 use Rattle.derivation_meaning.specs.State.{Entry, State, is_empty, holds_empty, last_cost}
 use Rattle.derivation_meaning.specs.Valid.{IsEnd}
 use Rattle.proof_checker.specs.inner.View.{entry_of}

@@ -1,5 +1,5 @@
 -- A judgement from its parts.
-use Rattle.std.proofs.Common.{◌≡◌, ◌↔◌, ◌⊎◌, inl, inr, ℕ, ℤ, Bool, true, false, List, [], ◌∷◌, Option, None, Some, Result, Ok, Err, OnOk, IfErr, IsTrue, refl, sym, ◌∙◌, subst, true≢false}
+use Rattle.std.proofs.Common.{◌≡◌, ◌⊎◌, inl, inr, ℕ, ℤ, true, false, List, None, Result, Ok, Err, OnOk, IfErr, refl, sym, ◌∙◌, subst, true≢false}
 use Rattle.literals.specs.declared.lit.Lit.{Lit}
 use Rattle.ground_model.specs.declared.program.GroundProgram.{GroundProgram}
 use Rattle.ground_model.specs.Members.{IsMember}
@@ -9,7 +9,7 @@ use Rattle.derivation.specs.declared.line.Line.TheVariants as l
 use Rattle.derivation_meaning.specs.State.{State, last_cost}
 use Rattle.derivation_meaning.specs.Lines.{answer_of, improves, reason_of}
 use Rattle.derivation_meaning.specs.Valid.{IsAnswerLine, IsBetterAnswer, IsLearned, IsNewAnswer, IsValid, IsValidAs}
-use Rattle.derivation_meaning.specs.Refusals.{Cause, AfterEnd, UnknownId, WrongObjective, WrongAnswer, RepeatedAnswer, NotImplied, are_live, NamesValues, HasWrongCost, IsRefused}
+use Rattle.derivation_meaning.specs.Refusals.{AfterEnd, UnknownId, WrongObjective, WrongAnswer, RepeatedAnswer, NotImplied, NamesValues, HasWrongCost, IsRefused}
 use Rattle.derivation_meaning.proofs.VerdictLemmas.{verdict_law}
 use Rattle.proof_checker.specs.declared.refused.Refused.{Refused}
 use Rattle.proof_checker.specs.declared.refused.Refused.TheVariants as why

@@ -5,3 +5,4 @@ pub mod AnswerLineLemmas
 pub mod NextLemmas
 pub mod ClaimedLemmas
 pub mod JudgeLemmas
+pub mod TableLemmas

@@ -1,18 +1,19 @@
 -- Lines one after another.
 use Rattle.std.proofs.Common.{◌≡◌, ℕ, ◌+◌, ℤ, Bool, true, false, cond, List, [], ◌∷◌, ◌++◌, map, length, take, Option, None, Some, is_some, refl, sym, ap, ◌∙◌, true≢false}
 use Rattle.std.specs.List.{filter}
+use Rattle.std.proofs.lemmas.List.{map-append}
 use Rattle.std.proofs.lemmas.List.Elements.{filter-append}
 use Rattle.literals.specs.declared.lit.Lit.{Lit}
 use Rattle.ground_model.specs.declared.program.GroundProgram.{GroundProgram}
 use Rattle.ground_model.specs.Answers.{IsAnswerOf}
-use Rattle.derivation.specs.declared.line.Line.{Line}
 use Rattle.derivation.specs.declared.line.Line.TheVariants as line
 use Rattle.derivation_meaning.specs.declared.claim.Claim.{Claim}
-use Rattle.proof_checker.specs.declared.state.Live.{Live}
+use Rattle.proof_checker.specs.declared.live.Live.{Live}
 use Rattle.proof_checker.specs.declared.state.PlainState.{PlainState}
 use Rattle.derivation_meaning.specs.State.{Entry, State}
 use Rattle.derivation_meaning.specs.Lines.{answer_of}
 use Rattle.derivation_meaning.specs.Valid.{IsValid, with_nogood, held_alone}
+use Rattle.proof_checker.specs.inner.Merged.{Kept}
 use Rattle.proof_checker.specs.inner.View.{entry_of, state_of}
 
 pub held_view : (live : List Live) → map entry_of (filter (λ one. one.is_held) live) ≡ filter (λ entry. entry.is_held) (map entry_of live)
@@ -46,11 +47,16 @@ pub some_there : (claim : Option Claim) → is_some claim ≡ true → claim ≡
 some_there None e f = true≢false (sym e)
 some_there (Some claim) e f = absurd (cc f)
 
+-- one more nogood
+pub more_view : (live : List Live) (one : Live) → map entry_of (live ++ one ∷ []) ≡ map entry_of live ++ entry_of one ∷ []
+more_view live one = map-append entry_of live (one ∷ [])
+
 -- a learned nogood was added, and then those went that are not held
-pub learned_taken : (state : State) (made : PlainState) (live : List Live) (nogood lits : List Lit) → state_of made ≡ with_nogood state nogood true true → nogood ≡ lits
-    → live ≡ filter (λ one. one.is_held) made.live → state_of (record made { live = live }) ≡ with_nogood (held_alone state) lits true true
-learned_taken state made live nogood lits is same left =
-    ap (λ (entries : List Entry). record (state_of made) { live = entries }) (ap (map entry_of) left ∙ held_view made.live)
+pub learned_taken : (state : State) (made : PlainState) (table : Kept) (nogood lits : List Lit) → state_of made ≡ with_nogood state nogood true true → nogood ≡ lits
+    → table ≡ record made.table { live = filter (λ one. one.is_held) made.table.live } → state_of (record made { table = table }) ≡ with_nogood (held_alone state) lits true true
+learned_taken state made table nogood lits is same left =
+    ap (λ (t : Kept). state_of (record made { table = t })) left
+    ∙ ap (λ (entries : List Entry). record (state_of made) { live = entries }) (held_view made.table.live)
     ∙ ap held_alone is ∙ held_with state nogood true ∙ ap (λ (list : List Lit). with_nogood (held_alone state) list true true) same
 
 pub take_front : {X : Type 0} (xs : List X) (x : X) → take (length xs) (xs ++ x ∷ []) ≡ xs

@@ -5,7 +5,7 @@ use Rattle.literals.specs.declared.lit.Lit.{Lit}
 use Rattle.literals.specs.Nogoods.{IsNogood, canonical, resolved_with}
 use Rattle.literals.proofs.Puts.{joined-nil}
 use Rattle.ground_model.proofs.Products.{drop_next}
-use Rattle.proof_checker.specs.declared.state.Live.{Live}
+use Rattle.proof_checker.specs.declared.live.Live.{Live}
 use Rattle.proof_checker.specs.declared.state.PlainState.{PlainState}
 use Rattle.derivation_meaning.specs.State.{Entry, nogood_in, live_nogood}
 use Rattle.derivation_meaning.specs.Lines.{chained}
@@ -30,16 +30,16 @@ found_is (one ∷ rest) id = go (one.id == id) (found_is rest id)
     go true e = refl
     go false e = e
 
-chain_same : (plain : PlainState) (so_far : Option (List Lit)) (links : List (Lit × ℕ)) → chained (state_of plain) so_far links ≡ chain_in plain.live so_far links
+chain_same : (plain : PlainState) (so_far : Option (List Lit)) (links : List (Lit × ℕ)) → chained (state_of plain) so_far links ≡ chain_in plain.table.live so_far links
 chain_same plain so_far [] = refl
 chain_same plain so_far (link ∷ links) =
-    ap (λ right. chained (state_of plain) (resolved_with so_far link.0 right) links) (found_is plain.live link.1)
-    ∙ chain_same plain (resolved_with so_far link.0 (found_in plain.live link.1)) links
+    ap (λ right. chained (state_of plain) (resolved_with so_far link.0 right) links) (found_is plain.table.live link.1)
+    ∙ chain_same plain (resolved_with so_far link.0 (found_in plain.table.live link.1)) links
 
 pub chain_is : (plain : PlainState) (id : ℕ) (links : List (Lit × ℕ))
-    → chained (state_of plain) (live_nogood (state_of plain) id) links ≡ chain_in plain.live (found_in plain.live id) links
+    → chained (state_of plain) (live_nogood (state_of plain) id) links ≡ chain_in plain.table.live (found_in plain.table.live id) links
 chain_is plain id links =
-    ap (λ first. chained (state_of plain) first links) (found_is plain.live id) ∙ chain_same plain (found_in plain.live id) links
+    ap (λ first. chained (state_of plain) first links) (found_is plain.table.live id) ∙ chain_same plain (found_in plain.table.live id) links
 
 pub none_from : (live : List Live) (links : List (Lit × ℕ)) (i : ℕ) (d : Lit × ℕ) (so_far first : List Lit) → i < length links
     → chain_in live (Some so_far) (drop i links) ≡ chain_in live (Some first) links
@@ -51,5 +51,5 @@ none_from live links i d so_far first below is stuck =
     ∙ ap (λ rest. chain_in live (Some so_far) rest) (sym next) ∙ is
 
 -- whether the id is found
-pub live_is : (plain : PlainState) (id : ℕ) → is_live (state_of plain) id ≡ is_some (found_in plain.live id)
-live_is plain id = sym (live_there (state_of plain) id) ∙ ap is_some (found_is plain.live id)
+pub live_is : (plain : PlainState) (id : ℕ) → is_live (state_of plain) id ≡ is_some (found_in plain.table.live id)
+live_is plain id = sym (live_there (state_of plain) id) ∙ ap is_some (found_is plain.table.live id)

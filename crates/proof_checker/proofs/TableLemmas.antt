@@ -1,14 +1,14 @@
 -- Nogoods by id: two ascending lists as one.
 use Rattle.std.proofs.Common.{◌≡◌, ◌<◌, ◌≤◌, ◌+◌, ◌==◌, ℕ, zero, suc, nat_le, nat_lt, Bool, true, false, ◌&&◌, ◌||◌, cond, List, [], ◌∷◌, ◌++◌, length, get_or, Option, None, Some, refl, sym, ◌∙◌, ap, subst, true≢false, arith}
 use Rattle.std.specs.List.{AllByRecursion, filter, list_any}
-use Rattle.std.specs.List.Sorted.{IsPartitionPoint, IsPartitionedBy}
+use Rattle.std.specs.List.Sorted.{IsPartitionedBy}
 use Rattle.std.proofs.lemmas.Bool.{eqb-true}
 use Rattle.std.proofs.lemmas.Bool.Decides.{nat_tests}
 use Rattle.literals.specs.declared.lit.Lit.{Lit}
 use Rattle.proof_checker.specs.declared.live.Live.{Live}
 use Rattle.derivation_meaning.specs.State.{is_empty}
 use Rattle.proof_checker.specs.inner.Replay.{found_in}
-use Rattle.proof_checker.specs.inner.Merged.{put, merged, Ascend, Kept, IsTable, IsPlace}
+use Rattle.proof_checker.specs.inner.Merged.{put, merged, Ascend, IsTable, IsPlace}
 
 abbrev pub AllLive : (Live → Type 0) → List Live → Type 0
 AllLive P live = AllByRecursion P live
@@ -209,6 +209,23 @@ pub found_at : (xs : List Live) (id k : ℕ) (d : Live) → Ascend xs → IsPlac
     → found_in xs id ≡ cond ((get_or xs k d).id == id) (Some (get_or xs k d).nogood) None
 found_at xs id k d up at below = at_place xs id k d up below (λ i lt. at.0 i d (omega arith) lt) (at.1 k d (omega arith) below)
 
+same_id : (a b : ℕ) → a ≡ b → (a == b) ≡ true
+same_id a b e = grind (arith, nat_tests)
+
+other_id : (a b : ℕ) → (a ≡ b → ⊥) → (a == b) ≡ false
+other_id a b e = grind (arith, nat_tests)
+
+-- so it is found where it has the id
+pub found_then : (xs : List Live) (id k : ℕ) (x : Live) → Ascend xs → IsPlace xs id k → k < length xs → x ≡ get_or xs k x → x.id ≡ id
+    → found_in xs id ≡ Some x.nogood
+found_then xs id k x up at below is e =
+    found_at xs id k x up at below ∙ ap (λ (y : Live). cond (y.id == id) (Some y.nogood) None) (sym is) ∙ ap (λ b. cond b (Some x.nogood) None) (same_id x.id id e)
+
+pub found_else : (xs : List Live) (id k : ℕ) (x : Live) → Ascend xs → IsPlace xs id k → k < length xs → x ≡ get_or xs k x → (x.id ≡ id → ⊥)
+    → found_in xs id ≡ None
+found_else xs id k x up at below is e =
+    found_at xs id k x up at below ∙ ap (λ (y : Live). cond (y.id == id) (Some y.nogood) None) (sym is) ∙ ap (λ b. cond b (Some x.nogood) None) (other_id x.id id e)
+
 -- TABLES
 
 all_more : (P : Live → Type 0) (xs : List Live) (last : Live) → AllLive P xs → P last → AllLive P (xs ++ last ∷ [])
@@ -272,7 +289,8 @@ settled_live next held passing is =
       where
         all_kept : (xs : List Live) → AllLive (λ x. x.is_held ≡ true) xs → filter (λ (x : Live). x.is_held) xs ≡ xs
         all_kept [] all = refl
-        all_kept (x ∷ xs) all = rw (all.0) (ap (λ ys. x ∷ ys) (all_kept xs all.1))
+        all_kept (x ∷ xs) all =
+            ap (λ b. cond b (x ∷ filter (λ (y : Live). y.is_held) xs) (filter (λ (y : Live). y.is_held) xs)) all.0 ∙ ap (λ ys. x ∷ ys) (all_kept xs all.1)
 
 pub held_table : (next : ℕ) (held passing : List Live) (last : Live) → IsTable next held passing → last.id ≡ next → last.is_held ≡ true → IsTable (next + 1) (held ++ last ∷ []) passing
 held_table next held passing last is id stays =
@@ -297,6 +315,11 @@ passing_table next held passing last is id goes =
       held_stay = is.held_stay;
       passing_go = all_more (λ x. x.is_held ≡ false) passing last is.passing_go goes;
     }
+
+pub passing_more : (next more : ℕ) (held passing after : List Live) (last : Live) → IsTable next held passing → after ≡ passing ++ last ∷ [] → more ≡ next + 1
+    → last.id ≡ next → last.is_held ≡ false → IsTable more held after
+passing_more next more held passing after last is list count id goes =
+    subst (λ xs. IsTable more held xs) (sym list) (subst (λ n. IsTable n held (passing ++ last ∷ [])) (sym count) (passing_table next held passing last is id goes))
 
 pub held_live : (next : ℕ) (held passing : List Live) (last : Live) → IsTable next held passing → last.id ≡ next → merged (held ++ last ∷ []) passing ≡ merged held passing ++ last ∷ []
 held_live next held passing last is id =

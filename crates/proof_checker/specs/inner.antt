@@ -1,3 +1,4 @@
 pub mod View
 pub mod Replay
 pub mod Judging
+pub mod Merged

@@ -12,7 +12,8 @@ ghost use Rattle.proof_checker.specs.inner.View.{entry_of, state_of};
 
 use crate::judging::is_valid_line;
 use crate::next::advance;
-use crate::state::{Live, PlainState};
+use crate::state::PlainState;
+use crate::table::Table;
 use completion::complete;
 use derivation::Line;
 use derivation_meaning::Claim;
@@ -23,26 +24,18 @@ use std::alloc::Global;
 use symbols::{Listed, Memory};
 
 // The nogoods held under the ids from 1 on.
-fn held_from_one(alloc: Global, input: Listed<Nogood>) -> Result<Listed<Live>, Memory>
-    ensures { IfOk result (λ live. map entry_of live ≡ known.held_from 1 input) }
+#[tactic(auto, using(crate::proofs::NextLemmas::more_view))]
+fn held_from_one(alloc: Global, input: Listed<Nogood>) -> Result<Table, Memory>
+    ensures live { IfOk result (λ table. map entry_of table.live ≡ known.held_from 1 input) }
+    ensures next { IfOk result (λ table. table.next ≡ 1 + length input) }
 {
     let mut rest = input;
     rest.reverse();
-    let mut live = Listed::new(alloc);
-    let count = rest.len() as u128;
-    let mut id: u128 = 1;
+    let mut table = Table::new(alloc);
     'fill: loop {
         match rest.pop() {
-            Some(nogood) => {
-                live.push(Live {
-                    id,
-                    nogood,
-                    is_held: true,
-                    is_learned: false,
-                })?;
-                id += 1;
-            }
-            None => return Ok(live),
+            Some(nogood) => table.add(nogood, true, false)?,
+            None => return Ok(table),
         }
     }
 }
@@ -51,11 +44,9 @@ fn held_from_one(alloc: Global, input: Listed<Nogood>) -> Result<Listed<Live>, M
 pub(crate) fn first_state(alloc: Global, input: Listed<Nogood>) -> Result<PlainState, Memory>
     ensures { IfOk result (λ state. state_of state ≡ record { next = 1 + length input; live = known.held_from 1 input; answers = []; best = None; claim = None }) }
 {
-    let next = 1 + input.len() as u128;
-    let live = held_from_one(alloc, input)?;
+    let table = held_from_one(alloc, input)?;
     Ok(PlainState {
-        next,
-        live,
+        table,
         answers: Listed::new(alloc),
         best: None,
         claim: None,
@@ -88,7 +79,7 @@ fn claim_after(
 /// The claim of these lines, which stand behind a header, where they are accepted.
 ///
 /// The program is numbered and its input nogoods are made; then each line takes the time of its own rule,
-/// and each id of a chain that of all live nogoods.
+/// and each id of a chain one look-up by halving.
 pub fn accepted_claim(
     alloc: Global,
     program: &GroundProgram,

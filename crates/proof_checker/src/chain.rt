@@ -8,36 +8,18 @@ ghost use Rattle.derivation_meaning.specs.Valid.{IsLearned};
 ghost use Rattle.proof_checker.specs.inner.View.{state_of};
 
 use crate::same::are_same;
-use crate::state::{Live, PlainState};
+use crate::state::PlainState;
+use crate::table::Table;
 use literals::{Lit, Nogood, resolve};
 use std::alloc::Global;
 use symbols::Memory;
-
-// Whether it has the id.
-fn has_id(live: &Live, id: u64) -> bool
-    ensures { result ≡ (live.now.id == id) }
-{
-    live.id == u128::from(id)
-}
-
-// The live nogood of an id.
-fn find(live: &[Live], id: u64) -> Option<&Nogood>
-    ensures { MatchOption result (found_in live.now id ≡ None) (λ nogood. found_in live.now id ≡ Some nogood.now) }
-{
-    for entry in live {
-        if has_id(entry, id) {
-            return Some(&entry.nogood);
-        }
-    }
-    None
-}
 
 // Whether the id names a live nogood.
 #[tactic(auto, using(crate::proofs::ReplayLemmas::live_is))]
 fn is_live(state: &PlainState, id: u64) -> bool
     ensures { result ≡ spec.is_live (state_of state.now) id }
 {
-    find(state.live.items(), id).is_some()
+    state.table.find(id).is_some()
 }
 
 // Whether the id of each link does.
@@ -57,14 +39,14 @@ pub(crate) fn are_live(state: &PlainState, id: u64, links: &[(Lit, u64)]) -> boo
 // The nogood resolved at a pivot with that of an id.
 fn linked(
     alloc: Global,
-    live: &[Live],
+    table: &Table,
     so_far: &Nogood,
     pivot: Lit,
     id: u64,
 ) -> Result<Option<Nogood>, Memory>
-    ensures { IfOk result (λ next. next ≡ resolved_with (Some so_far.now) pivot (found_in live.now id)) }
+    ensures { IfOk result (λ next. next ≡ resolved_with (Some so_far.now) pivot (found_in table.now.live id)) }
 {
-    match find(live, id) {
+    match table.find(id) {
         Some(right) => resolve(alloc, so_far, pivot, right),
         None => Ok(None),
     }
@@ -74,15 +56,15 @@ fn linked(
 #[tactic(auto, using(crate::proofs::ReplayLemmas::none_stays))]
 fn replayed(
     alloc: Global,
-    live: &[Live],
+    table: &Table,
     first: Nogood,
     links: &[(Lit, u64)],
 ) -> Result<Option<Nogood>, Memory>
-    ensures { IfOk result (λ last. last ≡ chain_in live.now (Some first) links.now) }
+    ensures { IfOk result (λ last. last ≡ chain_in table.now.live (Some first) links.now) }
 {
     let mut so_far = first;
     for link in links {
-        match linked(alloc, live, &so_far, link.0, link.1)? {
+        match linked(alloc, table, &so_far, link.0, link.1)? {
             Some(next) => so_far = next,
             None => return Ok(None),
         }
@@ -112,16 +94,16 @@ fn ends_in(last: Option<Nogood>, lits: &[Lit]) -> bool
 #[tactic(auto, using(crate::proofs::ReplayLemmas::none_stays))]
 fn chained(
     alloc: Global,
-    live: &[Live],
+    table: &Table,
     id: u64,
     links: &[(Lit, u64)],
 ) -> Result<Option<Nogood>, Memory>
-    ensures { IfOk result (λ last. last ≡ chain_in live.now (found_in live.now id) links.now) }
+    ensures { IfOk result (λ last. last ≡ chain_in table.now.live (found_in table.now.live id) links.now) }
 {
-    match find(live, id) {
+    match table.find(id) {
         Some(first) => {
             let first = copied(alloc, first)?;
-            replayed(alloc, live, first, links)
+            replayed(alloc, table, first, links)
         }
         None => Ok(None),
     }
@@ -129,7 +111,7 @@ fn chained(
 
 // Whether the chain's resolutions from the live nogood of the id on give the list.
 //
-// Each id is sought among all live nogoods.
+// Each id is sought by halving.
 #[tactic(auto, using(crate::proofs::ReplayLemmas::chain_is))]
 pub(crate) fn is_learned(
     alloc: Global,
@@ -140,6 +122,6 @@ pub(crate) fn is_learned(
 ) -> Result<bool, Memory>
     ensures { IfOk result (λ yes. IsTrue yes ↔ IsLearned (state_of state.now) id links.now lits.now) }
 {
-    let last = chained(alloc, state.live.items(), id, links)?;
+    let last = chained(alloc, &state.table, id, links)?;
     Ok(ends_in(last, lits))
 }

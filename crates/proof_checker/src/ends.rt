@@ -1,40 +1,18 @@
 // Whether a `q` line may stand.
-ghost use Rattle.std.specs.Prelude.{◌≡◌, ◌↔◌, ◌≤◌, ◌&&◌, IsTrue, [], length, None, Some};
-ghost use Rattle.std.specs.List.{list_any};
+ghost use Rattle.std.specs.Prelude.{◌≡◌, ◌↔◌, ◌≤◌, IsTrue, [], length, None, Some};
 ghost use Rattle.derivation_meaning.specs.State as spec;
 ghost use Rattle.derivation_meaning.specs.State.{last_cost};
 ghost use Rattle.derivation_meaning.specs.Valid.{IsEnd};
 ghost use Rattle.proof_checker.specs.inner.View.{state_of};
 
-use crate::state::{Live, PlainState};
+use crate::state::PlainState;
 
-// Whether it is the empty nogood, held.
-fn is_held_empty(live: &Live) -> bool
-    ensures { result ≡ (live.now.is_held && spec.is_empty live.now.nogood) }
-{
-    live.is_held && has_none(live)
-}
-
-// Whether the nogood is empty.
-fn has_none(live: &Live) -> bool
-    ensures { result ≡ spec.is_empty live.now.nogood }
-{
-    live.nogood.lits().is_empty()
-}
-
-// Whether the empty nogood is held among these.
-fn any_is_empty(live: &[Live]) -> bool
-    ensures { result ≡ list_any (λ one. one.is_held && spec.is_empty one.nogood) live.now }
-{
-    live.iter().any(|one| is_held_empty(one))
-}
-
-// Whether the empty nogood is held. It looks at each live nogood.
+// Whether the empty nogood is held. It looks at each that is.
 #[tactic(auto, using(crate::proofs::EndLemmas::held_is))]
 fn holds_empty(state: &PlainState) -> bool
     ensures { result ≡ spec.holds_empty (state_of state.now) }
 {
-    any_is_empty(state.live.items())
+    state.table.holds_empty()
 }
 
 // Whether `q none` may stand.

@@ -14,10 +14,12 @@ mod checker;
 mod ends;
 mod judging;
 mod lines;
+mod live;
 mod next;
 mod refused;
 mod same;
 mod state;
+mod table;
 
 pub use acceptance::accepted_claim;
 pub use checker::Checker;

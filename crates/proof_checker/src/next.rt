@@ -10,7 +10,7 @@ ghost use Rattle.derivation_meaning.specs.Valid.{IsValid};
 ghost use Rattle.proof_checker.specs.inner.View.{state_of};
 
 use crate::answers::answer_of;
-use crate::state::{Costed, Live, PlainState};
+use crate::state::{Costed, PlainState};
 use derivation::Line;
 use derivation_meaning::{Claim, answer_nogood};
 use ground_model::{Answer, GroundProgram};
@@ -19,6 +19,7 @@ use std::alloc::Global;
 use symbols::{Listed, Memory};
 
 // Adds a nogood under the next id.
+#[tactic(auto, using(crate::proofs::NextLemmas::more_view))]
 fn add(
     state: &mut PlainState,
     nogood: Nogood,
@@ -28,24 +29,8 @@ fn add(
     ensures ok { OnOk result (state_of state.new ≡ valid.with_nogood (state_of state.old) nogood is_held is_learned) }
     ensures err { OnErr result (state.new ≡ state.old) }
 {
-    let Some(next) = state.next.checked_add(1) else {
-        return Err(Memory);
-    };
-    state.live.push(Live {
-        id: state.next,
-        nogood,
-        is_held,
-        is_learned,
-    })?;
-    state.next = next;
+    state.table.add(nogood, is_held, is_learned)?;
     Ok(())
-}
-
-// Lets those go that are not held.
-fn drop_passing(live: &mut Listed<Live>)
-    ensures { live.new ≡ filter (λ one. one.is_held) live.old }
-{
-    live.retain(|one| one.is_held);
 }
 
 // The nogood of a list that is one.
@@ -76,7 +61,7 @@ fn take_learned(alloc: Global, state: &mut PlainState, lits: &[Lit]) -> Result<(
 {
     let nogood = nogood_of(alloc, lits)?;
     add(state, nogood, true, true)?;
-    drop_passing(&mut state.live);
+    state.table.settle();
     Ok(())
 }
 
@@ -140,8 +125,8 @@ fn take_claim(state: &mut PlainState, claim: Claim)
 
 // Takes a valid line. Where memory can't be had, the state is as it was.
 //
-// A learned nogood takes time linear in the live nogoods, since those that are not held go; an answer
-// that of the program's atoms and variables; any other line that of its own length.
+// An answer takes the time of the program's atoms and variables; a learned nogood that of its own length and of
+// those that go; any other line that of its own length.
 #[tactic(auto, using(crate::proofs::NextLemmas::answer_stands))]
 pub(crate) fn advance(
     alloc: Global,

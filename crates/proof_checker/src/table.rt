@@ -144,7 +144,13 @@ impl Table {
             push_next(&mut self.held, &mut self.coming, nogood, true, is_learned)?;
             Ok(())
         } else {
-            push_next(&mut self.passing, &mut self.coming, nogood, false, is_learned)?;
+            push_next(
+                &mut self.passing,
+                &mut self.coming,
+                nogood,
+                false,
+                is_learned,
+            )?;
             Ok(())
         }
     }

@@ -1,7 +1,7 @@
 -- What the steps of a replay go by. Only the code of this crate reads this file.
 use Rattle.std.specs.Prelude.{ℕ, ◌+◌, ◌==◌, Bool, true, ◌&&◌, if◌then◌else◌, ℤ, List, [], ◌∷◌, Option, None, Some}
 use Rattle.literals.specs.declared.lit.Lit.{Lit}
-use Rattle.proof_checker.specs.declared.state.Live.{Live}
+use Rattle.proof_checker.specs.declared.live.Live.{Live}
 use Rattle.literals.specs.Nogoods.{resolved_with}
 
 -- the nogood of an id

@@ -1,6 +1,6 @@
 -- The state that a plain one stands for.
 use Rattle.std.specs.Prelude.{map, Option, None, Some}
-use Rattle.proof_checker.specs.declared.state.Live.{Live}
+use Rattle.proof_checker.specs.declared.live.Live.{Live}
 use Rattle.proof_checker.specs.declared.state.Costed.{Costed}
 use Rattle.proof_checker.specs.declared.state.PlainState.{PlainState}
 use Rattle.derivation_meaning.specs.State.{Entry, Best, State}
@@ -14,8 +14,8 @@ best_of (Some costed) = Some (record { cost = costed.cost; answer = costed.answe
 
 abbrev pub state_of : PlainState → State
 state_of plain = record {
-  next = plain.next;
-  live = map entry_of plain.live;
+  next = plain.table.next;
+  live = map entry_of plain.table.live;
   answers = plain.answers;
   best = best_of plain.best;
   claim = plain.claim;

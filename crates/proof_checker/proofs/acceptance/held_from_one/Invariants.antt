@@ -6,8 +6,8 @@ use Rattle.proof_checker.proofs.acceptance.held_from_one.Given as goal
 
 abbrev pub invariant-fill : goal.invariant-fill
 invariant-fill l = record {
-  count : l.id + length l.rest ≡ 1 + l.count;
-  held : held_from 1 (reverse l.initial.rest) ≡ map entry_of l.live ++ held_from l.id (reverse l.rest);
+  count : l.table.next + length l.rest ≡ 1 + length l.initial.rest;
+  held : held_from 1 (reverse l.initial.rest) ≡ map entry_of l.table.live ++ held_from l.table.next (reverse l.rest);
 }
 
 abbrev pub decreases-fill : goal.decreases-fill
