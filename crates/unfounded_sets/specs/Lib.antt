@@ -1,0 +1,4 @@
+pub mod Dependence
+pub mod Loops
+pub mod Laws
+pub mod inner
