@@ -1,0 +1,6 @@
+mod GapLaws
+mod ReasonLaws
+mod QuietLaws
+mod StepLaws
+mod WorkLaws
+mod ListingLaws

@@ -1,0 +1,5 @@
+pub mod Work
+pub mod Domains
+pub mod Meanings
+pub mod Tuples
+pub mod inner
