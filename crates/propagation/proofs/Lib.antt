@@ -1,0 +1,6 @@
+pub mod RestLaws
+pub mod WakeLaws
+pub mod RowLaws
+pub mod QueueLaws
+pub mod SettleLaws
+pub mod StepLaws

@@ -1,0 +1,23 @@
+use Rattle.std.proofs.Common.{◌≡◌, ◌-◌, ◌^◌, length, map}
+use Rattle.trail.specs.Growth.{Grows}
+use Rattle.nogood_store.specs.Holding.{IsFront, seen_of}
+use Rattle.propagator_core.specs.Several.{AllStand}
+use Rattle.propagation.specs.Waking.{OthersRest}
+use Rattle.propagation.specs.Causes.{IsCaused}
+use Rattle.propagation.proofs.rest.settle.Given as goal
+
+abbrev pub invariant-settle : goal.invariant-settle
+invariant-settle g l =
+    let P = g.P.Propagator in
+    record {
+      grows : Grows (IsCaused l.fn.store.held (map P.meaning l.fn.propagators)) l.fn.trail l.trail;
+      meanings : map P.meaning l.propagators ≡ map P.meaning l.fn.propagators;
+      stand : AllStand P.stands P.looked l.propagators l.trail;
+      count : l.awake.count ≡ l.fn.awake.count;
+      held : l.store.held ≡ l.fn.store.held;
+      looked : IsFront l.store.looked (seen_of l.trail.entries);
+      others : OthersRest l.awake.places (map P.meaning l.fn.propagators) l.trail;
+    }
+
+abbrev pub decreases-settle : goal.decreases-settle
+decreases-settle g l = 2 ^ 64 - length l.trail.entries

@@ -1,0 +1,4 @@
+pub mod Awake
+pub mod Waking
+pub mod Causes
+pub mod inner

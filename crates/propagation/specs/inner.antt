@@ -1,0 +1,4 @@
+pub mod Queued
+pub mod Hearing
+pub mod Moves
+pub mod Going
