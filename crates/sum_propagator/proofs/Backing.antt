@@ -10,9 +10,8 @@ use Rattle.trail.specs.Implied.{implied}
 use Rattle.trail.specs.Assignment.{Assignment, Names, is_true_on}
 use Rattle.trail_bounds.specs.OnTrail.{bounds_on}
 use Rattle.trail_bounds.specs.Sides.{side_least, side_sum}
-use Rattle.trail_bounds.specs.inner.Lists.{IsOrTrue}
 use Rattle.trail_bounds.specs.Backing.{BacksOne}
-use Rattle.sum_propagator.specs.Reasons.{sum_but, Backs}
+use Rattle.sum_propagator.specs.Reasons.{sum_but, IsInstead, Backs}
 use Rattle.trail_bounds.proofs.Backs.{each_append, each_front, each_back, each_as}
 
 -- ONE ITEM LEFT OUT
@@ -100,6 +99,10 @@ backs_none t side items but instead slack old = record {
     same : (slack : ℕ) → (pos 0 +ℤ pos slack) ≤ℤ (pos 0 +ℤ pos slack)
     same slack = omega (arith, ints)
 
+later : (t : Assignment) (but upto : ℕ) (instead m : Lit) → IsInstead t but upto instead m → IsInstead t but (upto + 1) instead m
+later t but upto instead m (inl p) = inl ((let lt = p.0 in omega (arith, lt)), p.1)
+later t but upto instead m (inr on) = inr on
+
 before : (but upto : ℕ) → (upto ≡ but → ⊥) → but < upto + 1 → but < upto
 before but upto ne lt = grind arith
 
@@ -108,7 +111,7 @@ backs_more t side items but instead slack left rest upto i old mid new b o lt ne
   more = b.more ++ o.more;
   added = o.added ∙ ap (λ (ls : List Lit). ls ++ o.more) b.added ∙ append_assoc old b.more o.more;
   names = each_append (Names t.shape) b.more o.more b.names o.names;
-  each = each_append (IsOrTrue t instead) b.more o.more b.each (each_as (λ l. is_true_on t l ≡ true) (IsOrTrue t instead) o.more (λ m e. inr e) o.are_true);
+  each = each_append (IsInstead t but (upto + 1) instead) b.more o.more (each_as (IsInstead t but upto instead) (IsInstead t but (upto + 1) instead) b.more (later t but upto instead) b.each) (each_as (λ l. is_true_on t l ≡ true) (IsInstead t but (upto + 1) instead) o.more (λ m e. inr e) o.are_true);
   has = λ lits f lt. b.has lits (each_front (λ m. implied t.shape.ends lits m ≡ true) b.more o.more f) (before but upto ne lt);
   covers = λ lits f. more (sum_but side (bounds_on t) (take (upto + 1) items) but) (sum_but side (bounds_on t) (take upto items) but) (side_least side (bounds_on t) i)
       (sum_but side (bounds_named t.shape.ends lits) (take (upto + 1) items) but) (sum_but side (bounds_named t.shape.ends lits) (take upto items) but) (side_least side (bounds_named t.shape.ends lits) i)
@@ -125,7 +128,7 @@ backs_instead t side items but instead slack left upto d old mid new n b lt e ad
   more = b.more ++ instead ∷ [];
   added = add ∙ ap (λ (ls : List Lit). ls ++ instead ∷ []) b.added ∙ append_assoc old b.more (instead ∷ []);
   names = each_append (Names t.shape) b.more (instead ∷ []) b.names (n, tt);
-  each = each_append (IsOrTrue t instead) b.more (instead ∷ []) b.each (inl refl, tt);
+  each = each_append (IsInstead t but (upto + 1) instead) b.more (instead ∷ []) (each_as (IsInstead t but upto instead) (IsInstead t but (upto + 1) instead) b.more (later t but upto instead) b.each) (inl (omega (arith, e), refl), tt);
   has = λ lits f lt. (each_back (λ m. implied t.shape.ends lits m ≡ true) b.more (instead ∷ []) f).0;
   covers = λ lits f. same (sum_but side (bounds_on t) (take (upto + 1) items) but) (sum_but side (bounds_on t) (take upto items) but)
       (sum_but side (bounds_named t.shape.ends lits) (take (upto + 1) items) but) (sum_but side (bounds_named t.shape.ends lits) (take upto items) but)

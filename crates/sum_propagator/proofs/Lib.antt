@@ -4,7 +4,6 @@ mod Narrowing
 mod Forcing
 mod Few
 mod Settling
-mod TestLaws
 mod Widths
 mod Moving
 mod Following

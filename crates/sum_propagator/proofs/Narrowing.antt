@@ -16,46 +16,45 @@ use Rattle.trail.specs.declared.entry.Why.TheVariants.{Shown}
 use Rattle.trail.specs.Assignment.{Assignment, Names, lits_of, is_true_on, entry_of}
 use Rattle.trail.specs.Growth.{Grows}
 use Rattle.trail.proofs.ImpliedLaws.{open_is}
-use Rattle.trail.proofs.GrowthLaws.{grows_same, grows_shape, grows_length}
+use Rattle.trail.proofs.GrowthLaws.{grows_same, grows_shape, grows_length, grows_true}
 use Rattle.propagator_core.specs.Shown.{IsShown}
 use Rattle.trail_bounds.specs.OnTrail.{is_item_of, bounds_on}
-use Rattle.sum_propagator.specs.Sums.{fits_sum, valid_sum}
+use Rattle.sum_propagator.specs.Sums.{fits_sum}
 use Rattle.trail_bounds.specs.Sides.{side_least, side_sum, Rests}
 use Rattle.sum_propagator.specs.Sides.{limit_of}
 use Rattle.trail_bounds.specs.inner.Lists.{IsOrTrue}
 use Rattle.trail_bounds.specs.Needing.{IsNeeded}
 use Rattle.sum_propagator.specs.Reasons.{Explains}
+use Rattle.sum_propagator.specs.declared.sum.Kind.{Kind}
+use Rattle.sum_propagator.specs.declared.sum.Kind.TheVariants as kind
+use Rattle.sum_propagator.specs.Kinds.{meaning_of, own_lits, IsOn}
 use Rattle.trail_bounds.proofs.Backs.{each_as}
 use Rattle.sum_propagator.proofs.Backing.{sum_beyond}
-use Rattle.sum_propagator.proofs.Validity.{valid_by, spelled}
+use Rattle.sum_propagator.proofs.Validity.{valid_kind, spelled, reason_or_true}
 use Rattle.trail_bounds.proofs.Needing.{forces_by}
 
 -- FORCING
 
--- a literal of the reason is the other one or true, where the constraint is true on this side or is that one
-or_true : (t : Assignment) (on instead : Lit) → IsOrTrue t instead on → (m : Lit) → (m ≡ on) ⊎ IsOrTrue t instead m → IsOrTrue t instead m
-or_true t on instead h m (inl e) = subst (IsOrTrue t instead) (sym e) h
-or_true t on instead h m (inr o) = o
-
-pub reason_or_true : (t : Assignment) (number : ℕ) (items : List Item) (side : Bool) (but : ℕ) (instead : Lit) (slack : ℕ) (r : Reason) → IsOrTrue t instead (Constraint number side) → Explains t number items side but instead slack r → AllByRecursion (IsOrTrue t instead) r.nogood
-reason_or_true t number items side but instead slack r h x = each_as (λ l. (l ≡ Constraint number side) ⊎ IsOrTrue t instead l) (IsOrTrue t instead) r.nogood (or_true t (Constraint number side) instead h) x.each
-
 beyond_limit : (m x y : ℤ) (s : ℕ) → m ≤ℤ (x +ℤ pos s) → (x +ℤ pos s) <ℤ y → m <ℤ y
 beyond_limit m x y s h g = omega (arith, ints, h, g)
 
+-- what is true on the trail is it or the other literal
+or_true : (t : Assignment) (instead : Lit) (ls : List Lit) → AllByRecursion (λ m. is_true_on t m ≡ true) ls → AllByRecursion (IsOrTrue t instead) ls
+or_true t instead ls a = each_as (λ m. is_true_on t m ≡ true) (IsOrTrue t instead) ls (λ m e. inr e) a
+
 -- the literal that the item at this place needs is shown by its reason, which gives away no more than is spared
-pub press_shown : (t : Assignment) (number : ℕ) (items : List Item) (most : ℤ) (side : Bool) (at slack spare : ℕ) (i : Item) (l : Lit) (r : Reason) → is_true_on t (Constraint number side) ≡ true → at < length items → ((d : Item) → get_or items at d ≡ i) → limit_of side most ≤ℤ (side_sum side (bounds_on t) items +ℤ pos slack) → IsNeeded t side i (slack + spare) l → Explains t number items side at (complement_of l) spare r → IsShown (valid_sum number items most) t (entry_of t l (Shown r))
-press_shown t number items most side at slack spare i l r on lt is limit w x =
+pub press_shown : (t : Assignment) (kind : Kind) (number : ℕ) (items : List Item) (most : ℤ) (side : Bool) (at slack spare : ℕ) (i : Item) (l : Lit) (r : Reason) → IsOn t kind number side → at < length items → ((d : Item) → get_or items at d ≡ i) → limit_of side most ≤ℤ (side_sum side (bounds_on t) items +ℤ pos slack) → IsNeeded t side i (slack + spare) l → Explains t kind number items side at (complement_of l) spare r → IsShown (meaning_of kind number items most).valid t (entry_of t l (Shown r))
+press_shown t kind number items most side at slack spare i l r on lt is limit w x =
     let never : is_true_on t (complement_of l) ≡ false = (open_is t.shape.ends (lits_of t.entries) l w.is_open).1 in
     record {
       reason = r;
       why = refl;
-      is_valid = valid_by number items most t.shape r side x.names x.step x.listed
+      is_valid = valid_kind kind number items most t.shape r side on.0 x.names x.step x.listed
           (beyond_limit (limit_of side most) (side_sum side (bounds_on t) items) (side_sum side (bounds_named t.shape.ends r.nogood) items) slack limit
           (sum_beyond side (bounds_on t) (bounds_named t.shape.ends r.nogood) items at slack spare i x.covers lt
           (subst (λ (j : Item). (side_least side (bounds_on t) j +ℤ pos (slack + spare)) <ℤ side_least side (bounds_named t.shape.ends r.nogood) j) (sym (is i)) (w.beyond r.nogood (x.has lt)))));
-      spelled = spelled t number items side at (complement_of l) spare r x;
-      forces = forces_by t r l never (x.has lt) (reason_or_true t number items side at (complement_of l) spare r (inr on) x);
+      spelled = spelled t kind number items side at (complement_of l) spare r x;
+      forces = forces_by t r l never (x.has lt) (reason_or_true t kind number items side at (complement_of l) spare r (or_true t (complement_of l) (own_lits kind number side) on.1) x);
     }
 
 -- AS THE TRAIL GROWS
@@ -97,3 +96,24 @@ number_of s number items side h = record { literal = grind (arith, nat_tests); w
 
 pub item_at : (s : Shape) (number : ℕ) (items : List Item) (at : ℕ) (i : Item) → IsTrue (fits_sum number items s) → at < length items → ((d : Item) → get_or items at d ≡ i) → IsTrue (is_item_of s i)
 item_at s number items at i h lt is = subst (λ (j : Item). IsTrue (is_item_of s j)) (is i) (items_of s number items h at i lt)
+
+-- BY KIND
+
+pub grows_fits : (P : Assignment → Entry → Type 0) (a b : Assignment) (fits : Shape → Bool) → Grows P a b → IsTrue (fits a.shape) → IsTrue (fits b.shape)
+grows_fits P a b fits g h = subst (λ (s : Shape). IsTrue (fits s)) (sym (grows_shape P a b g)) h
+
+pub kind_items : (kind : Kind) (s : Shape) (number : ℕ) (items : List Item) (most : ℤ) → IsTrue ((meaning_of kind number items most).fits s) → All (λ item. IsTrue (is_item_of s item)) items
+kind_items kind.Constraint s number items most h = items_of s number items h
+kind_items kind.Unbounded s number items most h = All-from_recursion (λ item. IsTrue (is_item_of s item)) items (all_items s items h)
+kind_items kind.Bounded s number items most h = All-from_recursion (λ item. IsTrue (is_item_of s item)) items (all_items s items h)
+
+pub own_names : (kind : Kind) (s : Shape) (number : ℕ) (items : List Item) (most : ℤ) (side : Bool) → IsTrue ((meaning_of kind number items most).fits s) → AllByRecursion (Names s) (own_lits kind number side)
+own_names kind.Constraint s number items most side h = (number_of s number items side h, tt)
+own_names kind.Unbounded s number items most side h = tt
+own_names kind.Bounded s number items most side h = tt
+
+pub item_of_kind : (kind : Kind) (s : Shape) (number : ℕ) (items : List Item) (most : ℤ) (at : ℕ) (i : Item) → IsTrue ((meaning_of kind number items most).fits s) → at < length items → ((d : Item) → get_or items at d ≡ i) → IsTrue (is_item_of s i)
+item_of_kind kind s number items most at i h lt is = subst (λ (j : Item). IsTrue (is_item_of s j)) (is i) (kind_items kind s number items most h at i lt)
+
+pub on_later : (P : Assignment → Entry → Type 0) (a b : Assignment) (kind : Kind) (number : ℕ) (side : Bool) → Grows P a b → IsOn a kind number side → IsOn b kind number side
+on_later P a b kind number side g h = (h.0, each_as (λ m. is_true_on a m ≡ true) (λ m. is_true_on b m ≡ true) (own_lits kind number side) (λ m e. grows_true P a b m g e) h.1)

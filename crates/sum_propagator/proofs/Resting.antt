@@ -1,28 +1,36 @@
 -- A sum that rests is quiet, and it rests on while what it touches stays the same.
-use Rattle.std.proofs.Common.{◌≡◌, ℕ, ◌&&◌, Bool, true, false, cond, IsTrue, refl, sym, ◌∙◌, ap, subst, arith, List, [], ◌∷◌, length, get_or, map, ◌<◌, Option, None, Some, ℤ, pos, negsuc, neg_ℤ, ◌+ℤ◌, ◌-ℤ◌, ◌≤ℤ◌, ◌<ℤ◌}
+use Rattle.std.proofs.Common.{◌≡◌, ℕ, zero, suc, ◌&&◌, Bool, true, false, cond, IsTrue, refl, sym, ◌∙◌, ap, subst, arith, List, [], ◌∷◌, length, get_or, map, ◌<◌, Option, None, Some, ℤ, pos, negsuc, neg_ℤ, ◌+ℤ◌, ◌-ℤ◌, ◌≤ℤ◌, ◌<ℤ◌}
 use Rattle.std.specs.Prelude.{int_le, int_lt}
 use Rattle.std.specs.List.{AllByRecursion, list_all}
 use Rattle.std.proofs.lemmas.Bool.Decides.{nat_tests}
 use Rattle.std.proofs.lemmas.Int.{ints}
 use Rattle.std.proofs.lemmas.List.Elements.{All-from_recursion, recursion_from_All}
 use Rattle.literals.specs.declared.lit.Lit.TheVariants.{Constraint}
+use Rattle.literals.specs.declared.reason.Step.{Step}
+use Rattle.literals.specs.declared.reason.Step.TheVariants.{Sum, Distinct, Window, Pair, Loop, Hole}
+use Rattle.literals.specs.declared.reason.Reason.{Reason}
+use Rattle.trail.specs.declared.shape.Shape.{Shape}
 use Rattle.linear_normal.specs.declared.constraint.Item.{Item}
 use Rattle.linear_normal.specs.declared.constraint.Item.TheVariants.{Value, Truth}
-use Rattle.linear_normal.specs.Bounds.{Bounds, least_times, greatest_times, least_item, greatest_item, least_sum, greatest_sum}
+use Rattle.linear_normal.specs.Bounds.{Bounds, bounds_named, least_times, greatest_times, least_item, greatest_item, least_sum, greatest_sum}
 use Rattle.trail.specs.Assignment.{Assignment, IsAssignment, lits_of, is_true_on, truth_on}
 use Rattle.trail.proofs.AssignmentLaws.{true-truth, truth-true, truth-false, false-truth}
 use Rattle.propagator_core.specs.declared.touch.Touch.TheVariants as touch
 use Rattle.propagator_core.specs.Touching.{SameOf, SameOfAll}
-use Rattle.propagator_core.specs.Quiet.{IsQuiet, IsSteady}
+use Rattle.propagator_core.specs.Quiet.{is_of_objective, narrows, IsDecided, IsQuiet, IsSteady}
+use Rattle.sum_propagator.specs.declared.sum.Kind.{Kind}
+use Rattle.sum_propagator.specs.declared.sum.Kind.TheVariants as kind
+use Rattle.sum_propagator.specs.Kinds.{meaning_of, IsOn}
+use Rattle.sum_propagator.specs.Objective.{is_within, is_beyond, valid_objective, rests_objective, objective_meaning}
 use Rattle.numbering_laws.specs.Items.{are_items}
 use Rattle.sum_propagator.specs.Sums.{fits_sum, sum_meaning, touch_of, touches_of, is_below, is_above, is_consistent, rests_sum}
-use Rattle.trail_bounds.specs.OnTrail.{bounds_on}
+use Rattle.trail_bounds.specs.OnTrail.{is_of, is_item_of, bounds_on}
 use Rattle.sum_propagator.specs.Sides.{limit_of}
 use Rattle.trail_bounds.specs.Sides.{side_least, side_greatest, side_sum, Rests}
 use Rattle.trail_bounds.proofs.Ranges.{on_low, on_high, least-named, greatest-named}
 use Rattle.trail_bounds.proofs.ItemSums.{item_least, item_greatest, item_opposite, side-true, side-false}
 use Rattle.sum_propagator.proofs.Widths.{greatest_turned}
-use Rattle.sum_propagator.proofs.Settling.{quiet_here, quiet_open}
+use Rattle.sum_propagator.proofs.Settling.{quiet_here, quiet_open, sum_fixed}
 
 le_true : (a b : ℤ) → int_le a b ≡ true → a ≤ℤ b
 le_true a b h = grind (arith, nat_tests, ints)
@@ -158,7 +166,7 @@ truth_as : (t : Assignment) (n : ℕ) (side : Bool) → IsAssignment t → truth
 truth_as t n true h on = on
 truth_as t n false h on = truth-false t (Constraint n true) h (true-truth t (Constraint n false) on)
 
-side_as : (t : Assignment) (n : ℕ) (side : Bool) → truth_on t (Constraint n true) ≡ Some side → truth_on t (Constraint n side) ≡ Some true
+pub side_as : (t : Assignment) (n : ℕ) (side : Bool) → truth_on t (Constraint n true) ≡ Some side → truth_on t (Constraint n side) ≡ Some true
 side_as t n true e = e
 side_as t n false e = truth-true t (Constraint n false) (false-truth t (Constraint n true) e)
 
@@ -262,5 +270,70 @@ rests_last number items most t u s h =
     ∙ consistent_same (truth_on t (Constraint number true)) (bounds_on t) (bounds_on u) items most (items_same t u items s.1)
     ∙ h
 
-pub steady : (number : ℕ) (items : List Item) (most : ℤ) → IsTrue (are_items number items) → IsSteady (sum_meaning number items most)
+steady : (number : ℕ) (items : List Item) (most : ℤ) → IsTrue (are_items number items) → IsSteady (sum_meaning number items most)
 steady number items most i = record { quiet = λ t h f r. rests_quiet number items most i t h f r; lasts = λ t u e s r. rests_last number items most t u s r }
+
+-- THE OBJECTIVE
+
+never_here : (b : Bool) → b ≡ true → b ≡ false → ⊥
+never_here b e f = let no : true ≡ false = sym e ∙ f in cc
+
+-- its reasons are steps of the objective, of which nothing is asked
+of_objective : (items : List Item) (most : Option ℤ) (s : Shape) (r : Reason) → IsTrue (valid_objective items most s r) → is_of_objective r.step ≡ true
+of_objective items most s r h = (both_true (list_all (is_of s) r.nogood) (is_of_objective r.step) (both_true (list_all (is_of s) r.nogood && is_of_objective r.step) (is_beyond most (least_sum (bounds_named s.ends r.nogood) items)) h).0).1
+
+narrows_not : (step : Step) → is_of_objective step ≡ true → narrows step ≡ true → ⊥
+narrows_not (Sum zero) e f = let no : false ≡ true = f in cc
+narrows_not (Sum (suc n)) e f = let no : false ≡ true = e in cc
+narrows_not (Distinct n a b) e f = let no : false ≡ true = e in cc
+narrows_not (Window n a b) e f = let no : false ≡ true = e in cc
+narrows_not (Pair n i j) e f = let no : false ≡ true = e in cc
+narrows_not (Loop atoms) e f = let no : false ≡ true = e in cc
+narrows_not (Hole n) e f = let no : false ≡ true = e in cc
+
+objective_items : (s : Shape) (items : List Item) → IsTrue (list_all (is_item_of s) items) → AllByRecursion (λ i. IsTrue (is_item_of s i)) items
+objective_items s [] h = tt
+objective_items s (i ∷ is) h = let p = both_true (is_item_of s i) (list_all (is_item_of s) is) h in (p.0, objective_items s is p.1)
+
+objective_settled : (items : List Item) (most : Option ℤ) (t : Assignment) → IsAssignment t → IsTrue (list_all (is_item_of t.shape) items) → IsTrue (rests_objective items most t) → IsDecided (objective_meaning items most) t → IsTrue (is_within most (greatest_sum (bounds_on t) items))
+objective_settled items None t h fit r d = refl
+objective_settled items (Some most) t h fit r d =
+    let e = sum_fixed (objective_meaning items (Some most)) t items h d (objective_items t.shape items fit) (λ n f. f) in
+    ap (λ k. int_le k most) (sym e) ∙ (both_true (int_le (least_sum (bounds_on t) items) most) (list_all (is_below (bounds_on t) items most) items) r).0
+
+objective_quiet : (items : List Item) (most : Option ℤ) (t : Assignment) → IsAssignment t → IsTrue (list_all (is_item_of t.shape) items) → IsTrue (rests_objective items most t) → IsQuiet (objective_meaning items most) t
+objective_quiet items most t h fit r = record {
+  none_true = λ q v o a. never_here (is_of_objective q.step) (of_objective items most t.shape q v) o;
+  none_forced = λ q l v n a. narrows_not q.step (of_objective items most t.shape q v) n;
+  settled = λ d. objective_settled items most t h fit r d;
+}
+
+objective_last : (items : List Item) (most : Option ℤ) (t u : Assignment) → SameOfAll t u (map touch_of items) → IsTrue (rests_objective items most t) → IsTrue (rests_objective items most u)
+objective_last items None t u s h = refl
+objective_last items (Some most) t u s h = consistent_same (Some true) (bounds_on t) (bounds_on u) items most (items_same t u items s) ∙ h
+
+objective_steady : (items : List Item) (most : Option ℤ) → IsSteady (objective_meaning items most)
+objective_steady items most = record { quiet = λ t h f r. objective_quiet items most t h f r; lasts = λ t u e s r. objective_last items most t u s r }
+
+-- BY KIND
+
+pub steady_kind : (kind : Kind) (number : ℕ) (items : List Item) (most : ℤ) → IsTrue (are_items number items) → IsSteady (meaning_of kind number items most)
+steady_kind kind.Constraint number items most i = steady number items most i
+steady_kind kind.Unbounded number items most i = objective_steady items None
+steady_kind kind.Bounded number items most i = objective_steady items (Some most)
+
+-- a sum that is true on a side, within its limit, with each item within the slack
+pub done_kind : (t : Assignment) (kind : Kind) (number : ℕ) (items : List Item) (most : ℤ) (side : Bool) (slack : ℕ) → IsAssignment t → IsTrue (are_items number items) → IsTrue ((meaning_of kind number items most).fits t.shape) → IsOn t kind number side → (side_sum side (bounds_on t) items +ℤ pos slack) ≡ limit_of side most → ((k : ℕ) (d : Item) → k < length items → Rests side (bounds_on t) slack (get_or items k d)) → IsQuiet (meaning_of kind number items most) t × IsTrue ((meaning_of kind number items most).rests t)
+done_kind t kind.Constraint number items most side slack h i fit on e rest = done_here t number items most side slack h i fit (truth-true t (Constraint number side) on.1.0) e rest
+done_kind t kind.Unbounded number items most side slack h i fit on e rest = absurd on.0
+done_kind t kind.Bounded number items most side slack h i fit on e rest = turn side on.0 e rest
+  where
+    turn : (side : Bool) → side ≡ true → (side_sum side (bounds_on t) items +ℤ pos slack) ≡ limit_of side most → ((k : ℕ) (d : Item) → k < length items → Rests side (bounds_on t) slack (get_or items k d)) → IsQuiet (objective_meaning items (Some most)) t × IsTrue (rests_objective items (Some most) t)
+    turn true a e rest =
+        let r = consistent_by true (bounds_on t) items most slack e (recursion_from_All (Rests true (bounds_on t) slack) items rest) in
+        (objective_quiet items (Some most) t h fit r, r)
+    turn false a e rest = absurd (let no : false ≡ true = a in cc)
+
+-- an objective without a bound has nothing to say
+pub done_unbounded : (t : Assignment) (items : List Item) → IsAssignment t → IsTrue (list_all (is_item_of t.shape) items) → IsQuiet (objective_meaning items None) t × IsTrue (rests_objective items None t)
+done_unbounded t items h fit = (objective_quiet items None t h fit refl, refl)

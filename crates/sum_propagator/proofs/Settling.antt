@@ -37,12 +37,14 @@ use Rattle.sum_propagator.specs.Sides.{limit_of}
 use Rattle.trail_bounds.specs.Sides.{side_sum, Rests}
 use Rattle.trail_bounds.specs.inner.Lists.{IsOrTrue}
 use Rattle.sum_propagator.specs.Reasons.{Explains}
+use Rattle.sum_propagator.specs.declared.sum.Kind.{Kind}
+use Rattle.sum_propagator.specs.declared.sum.Kind.TheVariants as kind
+use Rattle.sum_propagator.specs.Kinds.{meaning_of, IsAbout, IsOn}
 use Rattle.trail_bounds.proofs.Ranges.{on_low, on_high, least-named, greatest-named}
 use Rattle.sum_propagator.proofs.Backing.{sum_covers}
 use Rattle.trail_bounds.proofs.ItemSums.{sum_says, side-true, side-false}
-use Rattle.trail_bounds.proofs.Backs.{each_as}
-use Rattle.sum_propagator.proofs.Validity.{valid_by, valid_cases, spelled, Excludes}
-use Rattle.sum_propagator.proofs.Narrowing.{reason_or_true, items_of}
+use Rattle.sum_propagator.proofs.Validity.{valid_kind, valid_cases, spelled, reason_or_true, reason_true, Excludes}
+use Rattle.sum_propagator.proofs.Narrowing.{items_of}
 use Rattle.trail_bounds.proofs.Needing.{forces_by, grows_placed}
 use Rattle.trail_bounds.proofs.Following.{with_lit, bounds_with, follow_says, says_with, other_items}
 use Rattle.sum_propagator.proofs.Forcing.{own_off, once_rec, one_lit, rests_rec}
@@ -50,23 +52,18 @@ use Rattle.sum_propagator.proofs.Forcing.{own_off, once_rec, one_lit, rests_rec}
 above : (m x y : ℤ) (s : ℕ) → (m +ℤ pos s) <ℤ x → x ≤ℤ (y +ℤ pos s) → m <ℤ y
 above m x y s h g = omega (arith, ints, h, g)
 
-excluded : (t : Assignment) (number : ℕ) (items : List Item) (most : ℤ) (side : Bool) (slack : ℕ) (r : Reason) → Explains t number items side (length items) (Constraint number side) slack r → (limit_of side most +ℤ pos slack) <ℤ side_sum side (bounds_on t) items → IsTrue (valid_sum number items most t.shape r)
-excluded t number items most side slack r x h =
-    valid_by number items most t.shape r side x.names x.step x.listed
+excluded : (t : Assignment) (kind : Kind) (number : ℕ) (items : List Item) (most : ℤ) (side : Bool) (instead : Lit) (slack : ℕ) (r : Reason) → IsAbout kind side → Explains t kind number items side (length items) instead slack r → (limit_of side most +ℤ pos slack) <ℤ side_sum side (bounds_on t) items → IsTrue ((meaning_of kind number items most).valid t.shape r)
+excluded t kind number items most side instead slack r a x h =
+    valid_kind kind number items most t.shape r side a x.names x.step x.listed
     (above (limit_of side most) (side_sum side (bounds_on t) items) (side_sum side (bounds_named t.shape.ends r.nogood) items) slack h (sum_covers side (bounds_on t) (bounds_named t.shape.ends r.nogood) items slack x.covers))
 
 -- a sum that is true on a side and beyond its limit is in conflict
-pub conflict_here : (t : Assignment) (number : ℕ) (items : List Item) (most : ℤ) (side : Bool) (slack : ℕ) (r : Reason) → truth_on t (Constraint number side) ≡ Some true → (limit_of side most +ℤ pos slack) <ℤ side_sum side (bounds_on t) items → Explains t number items side (length items) (Constraint number side) slack r → IsConflict (valid_sum number items most) t r
-conflict_here t number items most side slack r on h x = record {
-  is_valid = excluded t number items most side slack r x h;
-  spelled = spelled t number items side (length items) (Constraint number side) slack r x;
-  all_true = λ l c. All-contains (λ m. is_true_on t m ≡ true) r.nogood l (All-from_recursion (λ m. is_true_on t m ≡ true) r.nogood
-      (each_as (IsOrTrue t (Constraint number side)) (λ m. is_true_on t m ≡ true) r.nogood one (reason_or_true t number items side (length items) (Constraint number side) slack r (inl refl) x))) c;
+pub conflict_here : (t : Assignment) (kind : Kind) (number : ℕ) (items : List Item) (most : ℤ) (side : Bool) (instead : Lit) (slack : ℕ) (r : Reason) → IsOn t kind number side → (limit_of side most +ℤ pos slack) <ℤ side_sum side (bounds_on t) items → Explains t kind number items side (length items) instead slack r → IsConflict (meaning_of kind number items most).valid t r
+conflict_here t kind number items most side instead slack r on h x = record {
+  is_valid = excluded t kind number items most side instead slack r on.0 x h;
+  spelled = spelled t kind number items side (length items) instead slack r x;
+  all_true = λ l c. All-contains (λ m. is_true_on t m ≡ true) r.nogood l (All-from_recursion (λ m. is_true_on t m ≡ true) r.nogood (reason_true t kind number items side (length items) instead slack r (omega arith) on.1 x)) c;
 }
-  where
-    one : (m : Lit) → IsOrTrue t (Constraint number side) m → is_true_on t m ≡ true
-    one m (inl e) = ap (is_true_on t) e ∙ true-truth t (Constraint number side) on
-    one m (inr on) = on
 
 twice : (n : ℕ) (s : Bool) → complement_of (Constraint n (not s)) ≡ Constraint n s
 twice n true = refl
@@ -82,18 +79,18 @@ open_side t n true h = h
 open_side t n false h = truth-of t.shape.ends (lits_of t.entries) (Constraint n false) false false (both_open t n false h) (both_open t n true h)
 
 -- the constraint set to the other side, shown by what excludes this one
-pub settle_shown : (t new : Assignment) (number : ℕ) (items : List Item) (most : ℤ) (side : Bool) (slack : ℕ) (r : Reason) (p : Placed) → Names t.shape (Constraint number (not side)) → truth_on t (Constraint number true) ≡ None → (limit_of side most +ℤ pos slack) <ℤ side_sum side (bounds_on t) items → Explains t number items side (length items) (Constraint number side) slack r → Places t (Constraint number (not side)) (Shown r) p new → Grows (IsShown (valid_sum number items most)) t new
+pub settle_shown : (t new : Assignment) (number : ℕ) (items : List Item) (most : ℤ) (side : Bool) (slack : ℕ) (r : Reason) (p : Placed) → Names t.shape (Constraint number (not side)) → truth_on t (Constraint number true) ≡ None → (limit_of side most +ℤ pos slack) <ℤ side_sum side (bounds_on t) items → Explains t kind.Constraint number items side (length items) (Constraint number side) slack r → Places t (Constraint number (not side)) (Shown r) p new → Grows (IsShown (valid_sum number items most)) t new
 settle_shown t new number items most side slack r p n un h x places =
     let back = twice number side in
     grows_placed (IsShown (valid_sum number items most)) t new (Constraint number (not side)) r p n places (open_side t number (not side) un) (record {
       reason = r;
       why = refl;
-      is_valid = excluded t number items most side slack r x h;
-      spelled = spelled t number items side (length items) (Constraint number side) slack r x;
+      is_valid = excluded t kind.Constraint number items most side (Constraint number side) slack r tt x h;
+      spelled = spelled t kind.Constraint number items side (length items) (Constraint number side) slack r x;
       forces = forces_by t r (Constraint number (not side))
           (ap (is_true_on t) back ∙ both_open t number side un)
-          (ap (implied t.shape.ends r.nogood) back ∙ x.listed)
-          (subst (λ (l : Lit). AllByRecursion (IsOrTrue t l) r.nogood) (sym back) (reason_or_true t number items side (length items) (Constraint number side) slack r (inl refl) x));
+          (ap (implied t.shape.ends r.nogood) back ∙ x.listed.0)
+          (subst (λ (l : Lit). AllByRecursion (IsOrTrue t l) r.nogood) (sym back) (reason_or_true t kind.Constraint number items side (length items) (Constraint number side) slack r (inl refl, tt) x));
     })
 
 -- NOTHING LEFT TO SAY
@@ -215,7 +212,7 @@ or_right : (a b : Bool) → b ≡ true → (a || b) ≡ true
 or_right true b h = refl
 or_right false b h = h
 
-sum_fixed : (m : Meaning) (t : Assignment) (items : List Item) → IsAssignment t → IsDecided m t → AllByRecursion (λ i. IsTrue (is_item_of t.shape i)) items → ((n : ℕ) → list_any (counts_truth n) items ≡ true → IsTrue (m.counts n)) → least_sum (bounds_on t) items ≡ greatest_sum (bounds_on t) items
+pub sum_fixed : (m : Meaning) (t : Assignment) (items : List Item) → IsAssignment t → IsDecided m t → AllByRecursion (λ i. IsTrue (is_item_of t.shape i)) items → ((n : ℕ) → list_any (counts_truth n) items ≡ true → IsTrue (m.counts n)) → least_sum (bounds_on t) items ≡ greatest_sum (bounds_on t) items
 sum_fixed m t [] h d a f = refl
 sum_fixed m t (i ∷ is) h d a f =
     add (item_fixed (bounds_on t) i (fixed_item m t i h d a.0 (λ n e. f n (or_left (counts_truth n i) (list_any (counts_truth n) is) e))))

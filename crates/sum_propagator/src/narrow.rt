@@ -1,18 +1,18 @@
 // What a sum that is true on a side forces.
-ghost use Rattle.std.specs.Prelude.{◌≡◌, ℕ, ◌<◌, pos, ◌+ℤ◌, ◌≤ℤ◌, length, get_or, Some, true, IsTrue, OnOk};
+ghost use Rattle.std.specs.Prelude.{◌≡◌, ℕ, ◌<◌, pos, ◌+ℤ◌, ◌≤ℤ◌, length, get_or, IsTrue, OnOk};
 ghost use Rattle.linear_normal.specs.declared.constraint.Item.{Item};
-ghost use Rattle.trail.specs.Assignment.{IsAssignment, truth_on};
+ghost use Rattle.trail.specs.Assignment.{IsAssignment};
 ghost use Rattle.trail.specs.Growth.{Grows};
 ghost use Rattle.propagator_core.specs.Shown.{IsShown};
 ghost use Rattle.trail_bounds.specs.OnTrail.{bounds_on};
 ghost use Rattle.trail_bounds.specs.Sides.{Rests, side_sum};
-ghost use Rattle.sum_propagator.specs.Sums.{valid_sum, fits_sum};
+ghost use Rattle.sum_propagator.specs.Kinds.{meaning_of, IsOn};
 ghost use Rattle.sum_propagator.specs.Sides.{limit_of};
 
 use crate::reason::explain;
 use crate::sum::Sum;
 use linear_normal::Item;
-use literals::{Lit, complement};
+use literals::complement;
 use std::alloc::Global;
 use symbols::Memory;
 use trail::{Trail, Why};
@@ -29,12 +29,12 @@ fn press_item(
     slack: u128,
 ) -> Result<(), Memory>
     requires assignment { IsAssignment trail.old }
-    requires fits { IsTrue (fits_sum sum.now.number sum.now.items trail.old.shape) }
-    requires on { truth_on trail.old (Lit.Constraint sum.now.number side) ≡ Some true }
+    requires fits { IsTrue ((meaning_of sum.now.kind sum.now.number sum.now.items sum.now.most).fits trail.old.shape) }
+    requires on { IsOn trail.old sum.now.kind sum.now.number side }
     requires at { at < length sum.now.items }
     requires item { (d : Item) → get_or sum.now.items at d ≡ item }
     requires slack { limit_of side sum.now.most ≤ℤ (side_sum side (bounds_on trail.old) sum.now.items +ℤ pos slack) }
-    ensures grows { Grows (IsShown (valid_sum sum.now.number sum.now.items sum.now.most)) trail.old trail.new }
+    ensures grows { Grows (IsShown (meaning_of sum.now.kind sum.now.number sum.now.items sum.now.most).valid) trail.old trail.new }
     ensures rests { OnOk result (trail.new ≡ trail.old → Rests side (bounds_on trail.old) slack item) }
 {
     match implied_bound(trail, item, side, slack) {
@@ -58,11 +58,11 @@ fn press_one(
     slack: u128,
 ) -> Result<(), Memory>
     requires assignment { IsAssignment trail.old }
-    requires fits { IsTrue (fits_sum sum.now.number sum.now.items trail.old.shape) }
-    requires on { truth_on trail.old (Lit.Constraint sum.now.number side) ≡ Some true }
+    requires fits { IsTrue ((meaning_of sum.now.kind sum.now.number sum.now.items sum.now.most).fits trail.old.shape) }
+    requires on { IsOn trail.old sum.now.kind sum.now.number side }
     requires at { at < length sum.now.items }
     requires slack { limit_of side sum.now.most ≤ℤ (side_sum side (bounds_on trail.old) sum.now.items +ℤ pos slack) }
-    ensures grows { Grows (IsShown (valid_sum sum.now.number sum.now.items sum.now.most)) trail.old trail.new }
+    ensures grows { Grows (IsShown (meaning_of sum.now.kind sum.now.number sum.now.items sum.now.most).valid) trail.old trail.new }
     ensures rests { OnOk result (trail.new ≡ trail.old → (d : Item) → Rests side (bounds_on trail.old) slack (get_or sum.now.items at d)) }
 {
     let item = sum.items.items()[at];
@@ -78,10 +78,10 @@ pub(crate) fn press(
     slack: u128,
 ) -> Result<(), Memory>
     requires assignment { IsAssignment trail.old }
-    requires fits { IsTrue (fits_sum sum.now.number sum.now.items trail.old.shape) }
-    requires on { truth_on trail.old (Lit.Constraint sum.now.number side) ≡ Some true }
+    requires fits { IsTrue ((meaning_of sum.now.kind sum.now.number sum.now.items sum.now.most).fits trail.old.shape) }
+    requires on { IsOn trail.old sum.now.kind sum.now.number side }
     requires slack { limit_of side sum.now.most ≤ℤ (side_sum side (bounds_on trail.old) sum.now.items +ℤ pos slack) }
-    ensures grows { Grows (IsShown (valid_sum sum.now.number sum.now.items sum.now.most)) trail.old trail.new }
+    ensures grows { Grows (IsShown (meaning_of sum.now.kind sum.now.number sum.now.items sum.now.most).valid) trail.old trail.new }
     ensures rest { OnOk result (trail.new ≡ trail.old → (k : ℕ) (d : Item) → k < length sum.now.items → Rests side (bounds_on trail.old) slack (get_or sum.now.items k d)) }
 {
     for at in 0..sum.items.len() {

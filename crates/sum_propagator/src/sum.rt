@@ -15,9 +15,21 @@ use symbols::Listed;
 use trail::Trail;
 use trail_bounds::{greatest_of, least_of, number_in, range_on, signed, swing};
 
-/// The constraint of this number: the sum of the items is at most a number.
+/// What a sum is of.
+#[derive(Clone, Copy, Debug)]
+pub(crate) enum Kind {
+    /// The constraint of a number, true or false.
+    Constraint,
+    /// The objective, as long as it has no bound.
+    Unbounded,
+    /// The objective with its bound.
+    Bounded,
+}
+
+/// The sum of the items is at most a number: the constraint of this number, or the objective.
 #[derive(Debug, Drop)]
 pub(crate) struct Sum {
+    pub(crate) kind: Kind,
     pub(crate) number: u32,
     pub(crate) items: Listed<Item>,
     pub(crate) most: i128,

@@ -1,5 +1,5 @@
 // The propagator of a sum.
-ghost use Rattle.std.specs.Prelude.{◌≡◌, ◌<◌, ◌≤◌, ◌^◌, pos, ◌+ℤ◌, ◌≤ℤ◌, ◌<ℤ◌, length, Some, None, true, [], IsTrue, IfOk, IsSomeAnd, OnOk};
+ghost use Rattle.std.specs.Prelude.{◌≡◌, ◌<◌, ◌≤◌, ◌^◌, pos, ◌+ℤ◌, ◌≤ℤ◌, ◌<ℤ◌, length, List, Some, None, true, [], IsTrue, IfOk, IsSomeAnd, OnOk};
 ghost use Rattle.std.specs.Int.RustNames.{unsigned_abs};
 ghost use Rattle.std.specs.Option.{ForSome};
 ghost use Rattle.symbols.specs.declared.ends.Ends.{Ends};
@@ -12,6 +12,10 @@ ghost use Rattle.propagator_core.specs.Standing.{StandsFor};
 ghost use Rattle.numbering_laws.specs.Items.{are_items};
 ghost use Rattle.sum_propagator.specs.Sums.{fits_sum, valid_sum, sum_meaning, totals_after, AreWithin, StandsAt};
 ghost use Rattle.trail_bounds.specs.OnTrail.{bounds_on};
+ghost use Rattle.sum_propagator.specs.Kinds.{meaning_of, IsOn, IsObjective};
+ghost use Rattle.sum_propagator.specs.Objective.{objective_meaning};
+ghost use Rattle.sum_propagator.specs.declared.sum.Kind.TheVariants as kind;
+ghost use Rattle.trail.specs.declared.entry.Entry.{Entry};
 ghost use Rattle.sum_propagator.specs.Moves.{AreRising};
 ghost use Rattle.sum_propagator.specs.Sides.{AreSmall, limit_of};
 ghost use Rattle.trail_bounds.specs.Sides.{side_sum};
@@ -20,7 +24,9 @@ use crate::moves::totals_from;
 use crate::narrow::press;
 use crate::places::are_rising;
 use crate::reason::explain;
-use crate::sum::{Sum, Totals, coefficients, excluded, few, limit, total, totals_on, widest_on};
+use crate::sum::{
+    Kind, Sum, Totals, coefficients, excluded, few, limit, total, totals_on, widest_on,
+};
 use crate::touches::touches_of;
 use linear_normal::Item;
 use literals::Lit;
@@ -59,7 +65,7 @@ fn is_at_most(widest: Option<u128>, slack: u128) -> bool
     }
 }
 
-// Answers for a constraint that is true on this side.
+// Answers for a sum that is true on this side.
 fn decided(
     alloc: Global,
     trail: &mut Trail,
@@ -69,20 +75,20 @@ fn decided(
     widest: &mut Option<u128>,
 ) -> Result<Outcome, Memory>
     requires assignment { IsAssignment trail.old }
-    requires fits { IsTrue (fits_sum sum.now.number sum.now.items trail.old.shape) }
-    requires on { truth_on trail.old (Lit.Constraint sum.now.number side) ≡ Some true }
+    requires fits { IsTrue ((meaning_of sum.now.kind sum.now.number sum.now.items sum.now.most).fits trail.old.shape) }
+    requires on { IsOn trail.old sum.now.kind sum.now.number side }
     requires total { total ≡ side_sum side (bounds_on trail.old) sum.now.items }
     requires small { unsigned_abs total ≤ 2 ^ 126 }
     requires widest { AreWithin widest.old (bounds_on trail.old) sum.now.items }
     ensures widest { AreWithin widest.new (bounds_on trail.old) sum.now.items }
-    ensures grows { Grows (IsShown (valid_sum sum.now.number sum.now.items sum.now.most)) trail.old trail.new }
-    ensures answer { IfOk result (λ outcome. Answers (sum_meaning sum.now.number sum.now.items sum.now.most) trail.old trail.new outcome) }
+    ensures grows { Grows (IsShown (meaning_of sum.now.kind sum.now.number sum.now.items sum.now.most).valid) trail.old trail.new }
+    ensures answer { IfOk result (λ outcome. Answers (meaning_of sum.now.kind sum.now.number sum.now.items sum.now.most) trail.old trail.new outcome) }
 {
     let limit = limit(sum.most, side);
     if total > limit {
         let spare = excess_of(limit, total);
-        let on = Lit::Constraint(sum.number, side);
-        let reason = explain(alloc, trail, sum, side, sum.items.len(), on, spare)?;
+        let none = Lit::Constraint(sum.number, side);
+        let reason = explain(alloc, trail, sum, side, sum.items.len(), none, spare)?;
         return Ok(Outcome::Conflict(reason));
     }
     let slack = slack_of(limit, total);
@@ -108,6 +114,7 @@ fn settle(
     total: i128,
 ) -> Result<(), Memory>
     requires assignment { IsAssignment trail.old }
+    requires constraint { sum.now.kind ≡ kind.Constraint }
     requires fits { IsTrue (fits_sum sum.now.number sum.now.items trail.old.shape) }
     requires unknown { truth_on trail.old (Lit.Constraint sum.now.number true) ≡ None }
     requires total { total ≡ side_sum side (bounds_on trail.old) sum.now.items }
@@ -123,8 +130,8 @@ fn settle(
     Ok(())
 }
 
-// Answers for these totals.
-fn answer(
+// Answers for a constraint with these totals.
+fn judge(
     alloc: Global,
     trail: &mut Trail,
     sum: &Sum,
@@ -132,6 +139,7 @@ fn answer(
     widest: &mut Option<u128>,
 ) -> Result<Outcome, Memory>
     requires assignment { IsAssignment trail.old }
+    requires constraint { sum.now.kind ≡ kind.Constraint }
     requires fits { IsTrue (fits_sum sum.now.number sum.now.items trail.old.shape) }
     requires least { totals.least ≡ least_sum (bounds_on trail.old) sum.now.items }
     requires greatest { totals.greatest ≡ greatest_sum (bounds_on trail.old) sum.now.items }
@@ -153,6 +161,31 @@ fn answer(
     }
 }
 
+// Answers for these totals.
+fn answer(
+    alloc: Global,
+    trail: &mut Trail,
+    sum: &Sum,
+    totals: Totals,
+    widest: &mut Option<u128>,
+) -> Result<Outcome, Memory>
+    requires assignment { IsAssignment trail.old }
+    requires fits { IsTrue ((meaning_of sum.now.kind sum.now.number sum.now.items sum.now.most).fits trail.old.shape) }
+    requires least { totals.least ≡ least_sum (bounds_on trail.old) sum.now.items }
+    requires greatest { totals.greatest ≡ greatest_sum (bounds_on trail.old) sum.now.items }
+    requires small { AreSmall totals }
+    requires widest { AreWithin widest.old (bounds_on trail.old) sum.now.items }
+    ensures widest { AreWithin widest.new (bounds_on trail.old) sum.now.items }
+    ensures grows { Grows (IsShown (meaning_of sum.now.kind sum.now.number sum.now.items sum.now.most).valid) trail.old trail.new }
+    ensures answer { IfOk result (λ outcome. Answers (meaning_of sum.now.kind sum.now.number sum.now.items sum.now.most) trail.old trail.new outcome) }
+{
+    match sum.kind {
+        Kind::Constraint => judge(alloc, trail, sum, totals, widest),
+        Kind::Unbounded => Ok(Outcome::Quiet),
+        Kind::Bounded => decided(alloc, trail, sum, true, totals.least, widest),
+    }
+}
+
 // Whether it costs less to take the totals on from so many new entries than to take them anew.
 fn are_few(sum: &Sum, new: usize) -> bool
     ensures { IsTrue result → AreRising sum.now.items }
@@ -165,7 +198,7 @@ fn are_few(sum: &Sum, new: usize) -> bool
 #[tactic(auto, using(crate::proofs::Moving::totals_seen))]
 fn look(trail: &Trail, sum: &Sum, seen: usize, kept: Option<Totals>) -> Totals
     requires assignment { IsAssignment trail.now }
-    requires fits { IsTrue (fits_sum sum.now.number sum.now.items trail.now.shape) }
+    requires fits { IsTrue ((meaning_of sum.now.kind sum.now.number sum.now.items sum.now.most).fits trail.now.shape) }
     requires stands { StandsFor (λ ends entries. kept ≡ totals_after sum.now.items ends entries) seen trail.now }
     requires small { ForSome kept AreSmall }
     ensures least { result.least ≡ least_sum (bounds_on trail.now) sum.now.items }
@@ -183,8 +216,10 @@ fn look(trail: &Trail, sum: &Sum, seen: usize, kept: Option<Totals>) -> Totals
 
 // What is kept of totals: nothing before the first entry.
 fn kept(seen: usize, totals: Totals) -> Option<Totals>
+    requires { AreSmall totals }
     ensures none { seen ≡ 0 → result ≡ None }
     ensures some { 0 < seen → result ≡ Some totals }
+    ensures small { ForSome result AreSmall }
 {
     if seen == 0 { None } else { Some(totals) }
 }
@@ -207,7 +242,7 @@ impl SumPropagator {
     /// The sum of the items is at most this number. It has looked at nothing.
     pub fn new(number: u32, items: Listed<Item>, most: i64) -> Result<SumPropagator, Memory>
         requires { IsTrue (are_items number items) }
-        ensures meaning { IfOk result (λ p. sum_meaning p.sum.number p.sum.items p.sum.most ≡ sum_meaning number items most) }
+        ensures meaning { IfOk result (λ p. meaning_of p.sum.kind p.sum.number p.sum.items p.sum.most ≡ sum_meaning number items most) }
         ensures seen { IfOk result (λ p. p.seen ≡ 0) }
         ensures stands { IfOk result (λ p. (e : Ends) → StandsAt p.sum.items p.totals p.widest e []) }
     {
@@ -216,6 +251,7 @@ impl SumPropagator {
         let rising = are_rising(items.items());
         Ok(SumPropagator {
             sum: Sum {
+                kind: Kind::Constraint,
                 number,
                 items,
                 most: i128::from(most),
@@ -226,24 +262,69 @@ impl SumPropagator {
             widest: None,
         })
     }
+
+    /// The objective's sum, whose number is 0. It has no bound yet, and has looked at nothing.
+    pub fn objective(items: Listed<Item>) -> Result<SumPropagator, Memory>
+        requires { IsTrue (are_items 0 items) }
+        ensures meaning { IfOk result (λ p. meaning_of p.sum.kind p.sum.number p.sum.items p.sum.most ≡ objective_meaning items None) }
+        ensures objective { IfOk result (λ p. IsObjective p.sum.kind) }
+        ensures items { IfOk result (λ p. p.sum.items ≡ items) }
+        ensures seen { IfOk result (λ p. p.seen ≡ 0) }
+        ensures stands { IfOk result (λ p. (e : Ends) → StandsAt p.sum.items p.totals p.widest e []) }
+    {
+        few(0, items.items());
+        coefficients(items.items());
+        let rising = are_rising(items.items());
+        Ok(SumPropagator {
+            sum: Sum {
+                kind: Kind::Unbounded,
+                number: 0,
+                items,
+                most: 0,
+                rising,
+            },
+            seen: 0,
+            totals: None,
+            widest: None,
+        })
+    }
+
+    /// Bounds the objective's sum, which is at most this number from now on. What it keeps of the trail
+    /// stays. O(1).
+    pub fn tighten(&mut self, most: i128)
+        requires objective { IsObjective self.old.sum.kind }
+        requires most { unsigned_abs most < 2 ^ 120 }
+        ensures meaning { meaning_of self.new.sum.kind self.new.sum.number self.new.sum.items self.new.sum.most ≡ objective_meaning self.old.sum.items (Some most) }
+        ensures objective { IsObjective self.new.sum.kind }
+        ensures items { self.new.sum.items ≡ self.old.sum.items }
+        ensures seen { self.new.seen ≡ self.old.seen }
+        ensures stands { (e : Ends) (es : List Entry) → StandsAt self.old.sum.items self.old.totals self.old.widest e es → StandsAt self.new.sum.items self.new.totals self.new.widest e es }
+    {
+        self.sum.kind = Kind::Bounded;
+        self.sum.most = most;
+    }
 }
 
 impl Propagator for SumPropagator {
     ghost use Rattle.std.specs.Prelude.{◌≡◌};
-    ghost use Rattle.sum_propagator.specs.Sums.{sum_meaning, StandsAt};
+    ghost use Rattle.sum_propagator.specs.Sums.{StandsAt};
+    ghost use Rattle.sum_propagator.specs.Kinds.{meaning_of};
 
-    ghost meaning = { λ p. sum_meaning p.sum.number p.sum.items p.sum.most };
+    ghost meaning = { λ p. meaning_of p.sum.kind p.sum.number p.sum.items p.sum.most };
 
     ghost looked = { λ p. p.seen };
 
     ghost stands = { λ p ends entries. StandsAt p.sum.items p.totals p.widest ends entries };
 
     fn constraint(&self) -> u32 {
-        self.sum.number
+        match self.sum.kind {
+            Kind::Constraint => self.sum.number,
+            Kind::Unbounded | Kind::Bounded => 0,
+        }
     }
 
     fn touches(&self, alloc: Global) -> Result<Listed<Touch>, Memory> {
-        touches_of(alloc, self.sum.number, self.sum.items.items())
+        touches_of(alloc, &self.sum)
     }
 
     fn seen(&self) -> usize {

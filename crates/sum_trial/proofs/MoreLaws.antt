@@ -38,8 +38,8 @@ pub stand_more : {X : Type 0} (stands : X → Ends → List Entry → Type 0) (l
 stand_more stands looked xs y t h g =
     All-append (λ p. StandsFor (stands p) (looked p) t) xs (y ∷ []) h (all_one (λ p. StandsFor (stands p) (looked p) t) y g)
 
-pub fits_same : (n p : ℕ) (is js : List Item) (k l : ℤ) (s : Shape) → sum_meaning p js l ≡ sum_meaning n is k → IsTrue (fits_sum n is s) → IsTrue (fits_sum p js s)
-fits_same n p is js k l s e h = subst (λ (m : Meaning). IsTrue (m.fits s)) (sym e) h
+pub fits_same : (m : Meaning) (n : ℕ) (is : List Item) (k : ℤ) (s : Shape) → m ≡ sum_meaning n is k → IsTrue (fits_sum n is s) → IsTrue (m.fits s)
+fits_same m n is k s e h = subst (λ (m : Meaning). IsTrue (m.fits s)) (sym e) h
 
 pub stands_new : (stands : Ends → List Entry → Type 0) (seen : ℕ) (t : Assignment) → seen ≡ 0 → ((e : Ends) → stands e []) → StandsFor stands seen t
 stands_new stands seen t e h = record {

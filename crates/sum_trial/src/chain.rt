@@ -4,7 +4,8 @@ ghost use Rattle.trail.specs.declared.shape.Shape.{Shape};
 ghost use Rattle.trail.specs.Assignment.{Assignment};
 ghost use Rattle.propagator_core.specs.Standing.{StandsFor};
 ghost use Rattle.propagator_core.specs.Several.{AllFit, AllStand};
-ghost use Rattle.sum_propagator.specs.Sums.{fits_sum, sum_meaning, StandsAt};
+ghost use Rattle.sum_propagator.specs.Sums.{StandsAt};
+ghost use Rattle.sum_propagator.specs.Kinds.{meaning_of};
 ghost use Rattle.sum_trial.specs.Trials.{link_meaning, chain_meanings, IsChained};
 
 use crate::starting::{add, start};
@@ -21,8 +22,8 @@ fn link(alloc: Global, number: u32, trail: &Trail) -> Result<SumPropagator, Memo
     requires high { number ≤ trail.now.shape.constraints }
     requires next { number < trail.now.shape.variables }
     requires small { number ≤ 100000 }
-    ensures meaning { IfOk result (λ p. sum_meaning p.sum.number p.sum.items p.sum.most ≡ link_meaning number) }
-    ensures fits { IfOk result (λ p. IsTrue (fits_sum p.sum.number p.sum.items trail.now.shape)) }
+    ensures meaning { IfOk result (λ p. meaning_of p.sum.kind p.sum.number p.sum.items p.sum.most ≡ link_meaning number) }
+    ensures fits { IfOk result (λ p. IsTrue ((meaning_of p.sum.kind p.sum.number p.sum.items p.sum.most).fits trail.now.shape)) }
     ensures stands { IfOk result (λ p. StandsFor (StandsAt p.sum.items p.totals p.widest) p.seen trail.now) }
 {
     let items = [Item::Value(number, 1), Item::Value(number + 1, -1)];
@@ -38,9 +39,9 @@ fn links(alloc: Global, count: u32, trail: &Trail) -> Result<Vec<SumPropagator>,
     requires constraints { count ≡ trail.now.shape.constraints }
     requires variables { count < trail.now.shape.variables }
     requires small { count ≤ 100000 }
-    ensures meanings { IfOk result (λ all. map (λ p. sum_meaning p.sum.number p.sum.items p.sum.most) all.items ≡ chain_meanings count) }
+    ensures meanings { IfOk result (λ all. map (λ p. meaning_of p.sum.kind p.sum.number p.sum.items p.sum.most) all.items ≡ chain_meanings count) }
     ensures count { IfOk result (λ all. length all.items ≡ count) }
-    ensures fit { IfOk result (λ all. AllFit (map (λ p. sum_meaning p.sum.number p.sum.items p.sum.most) all.items) trail.now.shape) }
+    ensures fit { IfOk result (λ all. AllFit (map (λ p. meaning_of p.sum.kind p.sum.number p.sum.items p.sum.most) all.items) trail.now.shape) }
     ensures stand { IfOk result (λ all. AllStand (λ p. StandsAt p.sum.items p.totals p.widest) (λ p. p.seen) all.items trail.now) }
 {
     let mut all = Vec::new(alloc);

@@ -4,7 +4,8 @@ ghost use Rattle.std.specs.List.{list_all};
 ghost use Rattle.trail.specs.declared.shape.Shape.{Shape};
 ghost use Rattle.propagator_core.specs.Standing.{StandsFor};
 ghost use Rattle.numbering_laws.specs.Items.{are_items};
-ghost use Rattle.sum_propagator.specs.Sums.{is_item_of, fits_sum, sum_meaning, StandsAt};
+ghost use Rattle.sum_propagator.specs.Sums.{is_item_of, sum_meaning, StandsAt};
+ghost use Rattle.sum_propagator.specs.Kinds.{meaning_of};
 ghost use Rattle.sum_trial.specs.Trials.{wide_items, AreRaised, GrowsRaised, IsWidened};
 
 use crate::starting::start;
@@ -63,8 +64,8 @@ fn sum_of(
     requires variables { 2 ≤ trail.now.shape.variables }
     requires some { 1 ≤ constraints }
     requires few { constraints ≤ 100000 }
-    ensures meaning { IfOk result (λ p. sum_meaning p.sum.number p.sum.items p.sum.most ≡ sum_meaning 1 (wide_items (constraints - 1)) most) }
-    ensures fits { IfOk result (λ p. IsTrue (fits_sum p.sum.number p.sum.items trail.now.shape)) }
+    ensures meaning { IfOk result (λ p. meaning_of p.sum.kind p.sum.number p.sum.items p.sum.most ≡ sum_meaning 1 (wide_items (constraints - 1)) most) }
+    ensures fits { IfOk result (λ p. IsTrue ((meaning_of p.sum.kind p.sum.number p.sum.items p.sum.most).fits trail.now.shape)) }
     ensures stands { IfOk result (λ p. StandsFor (StandsAt p.sum.items p.totals p.widest) p.seen trail.now) }
 {
     let items = items_of(alloc, constraints)?;

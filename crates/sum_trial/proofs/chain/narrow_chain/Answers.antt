@@ -1,12 +1,12 @@
 use Rattle.std.proofs.Common.{ap, ◌∙◌, map}
-use Rattle.sum_propagator.specs.Sums.{sum_meaning}
+use Rattle.sum_propagator.specs.Kinds.{meaning_of}
 use Rattle.sum_propagator.specs.declared.sum_propagator.SumPropagator.{SumPropagator}
 use Rattle.sum_trial.proofs.TrialLaws.{chained}
 use Rattle.sum_trial.proofs.chain.narrow_chain.Goals as goal
 
 pub returns : goal.returns
 returns c =
-    let f = λ (p : SumPropagator). sum_meaning p.sum.number p.sum.items p.sum.most in
+    let f = λ (p : SumPropagator). meaning_of p.sum.kind p.sum.number p.sum.items p.sum.most in
     let both =
     chained c.args.count c.length.result c.in_ok-trail.trail c.propagate_all.new.trail (map f c.deref_mut.result.now) c.in_ok-propagate_all.field-0
     (ap (map f) c.deref_mut.ensures.value ∙ c.in_ok-all.ensures.meanings)
