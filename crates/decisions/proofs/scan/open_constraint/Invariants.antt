@@ -1,0 +1,7 @@
+use Rattle.std.proofs.Common.{◌≤◌, ℕ, true, IsTrue, is_some}
+use Rattle.literals.specs.declared.lit.Lit.TheVariants.{Constraint}
+use Rattle.trail.specs.Assignment.{truth_on}
+use Rattle.decisions.proofs.scan.open_constraint.Given as goal
+
+abbrev pub invariant-loop-at : goal.invariant-loop-at
+invariant-loop-at l = (n : ℕ) → 1 ≤ n → n ≤ l.at → IsTrue (is_some (truth_on l.trail (Constraint n true)))
