@@ -1,4 +1,12 @@
 pub mod Members
-pub mod Asked
 pub mod HeldLaws
 pub mod Growing
+pub mod Quiet
+pub mod Moments
+pub mod Lists
+pub mod Watched
+pub mod Working
+pub mod Ending
+pub mod Moving
+pub mod Visiting
+pub mod Cutting

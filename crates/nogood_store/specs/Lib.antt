@@ -1,3 +1,4 @@
 pub mod Holding
 pub mod Propagation
 pub mod Kept
+pub mod inner

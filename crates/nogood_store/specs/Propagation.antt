@@ -11,8 +11,6 @@ use Rattle.trail.specs.Forced.{AllTrueOn, AllButOpen}
 use Rattle.nogood_store.specs.Holding.{Held, nogood_under}
 use Rattle.nogood_store.specs.declared.propagate.Unit.{Unit as Ended}
 use Rattle.nogood_store.specs.declared.propagate.Unit.TheVariants.{Quiet, Conflict}
-use Rattle.nogood_store.specs.declared.examine.Asks.{Asks}
-use Rattle.nogood_store.specs.declared.examine.Asks.TheVariants.{AllTrue, OneOpen, Nothing}
 
 -- the nogood forces nothing: not all of its literals are true, nor all but one true and that one open
 pub record IsQuiet (t : Assignment) (lits : List Lit) : Type 0 where
@@ -43,9 +41,3 @@ Answers held t (Conflict id) = IsConflict held t id
 -- every literal of a held nogood is of the shape
 abbrev pub AllNamed : Shape → List Held → Type 0
 AllNamed s held = AllByRecursion (λ h. AllByRecursion (Names s) h.nogood) held
-
--- what one nogood asks for
-abbrev pub AsksFor : Assignment → List Lit → Asks → Type 0
-AsksFor t lits AllTrue = AllTrueOn t lits
-AsksFor t lits (OneOpen l) = AllButOpen t lits l
-AsksFor t lits Nothing = IsQuiet t lits

@@ -1,15 +1,27 @@
 // Nogoods under their ids.
-ghost use Rattle.std.specs.Prelude.{◌≡◌, ◌↔◌, IsTrue, option_copied};
+ghost use Rattle.std.specs.Prelude.{◌≡◌, ◌<◌, ◌↔◌, length, IsTrue, option_copied};
+ghost use Rattle.literals.specs.Nogoods.{IsNogood};
 ghost use Rattle.nogood_store.specs.Holding.{nogood_under, IsHeld};
 ghost use Rattle.nogood_store.specs.Kept.{held_of, SlotsAscend};
+ghost use Rattle.nogood_store.specs.inner.Watching.{nogood_at};
 
-use literals::Nogood;
+use literals::{Lit, Nogood};
 
 /// A nogood that is held, under its id.
 #[derive(Debug, Drop)]
 pub(crate) struct Slot {
     pub(crate) id: u64,
     pub(crate) nogood: Nogood,
+}
+
+/// The literals of the slot's nogood.
+#[inline]
+pub(crate) fn lits_of(slots: &[Slot], slot: usize) -> &[Lit]
+    requires { slot < length slots.now }
+    ensures value { result.now ≡ nogood_at slots.now slot }
+    ensures nogood { IsNogood result.now }
+{
+    slots[slot].nogood.lits()
 }
 
 /// The nogood under the id.

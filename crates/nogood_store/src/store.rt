@@ -6,6 +6,7 @@ ghost use Rattle.nogood_store.specs.Propagation.{AllNamed, IsForced, Answers};
 
 use crate::propagate::{Unit, propagate};
 use crate::slot::{Slot, has_nogood, nogood_of};
+use crate::watching::{Watching, shorten};
 use literals::Nogood;
 use std::alloc::Global;
 use std::marker::Model;
@@ -18,18 +19,19 @@ use trail::Trail;
 #[derive(Debug, Drop)]
 pub struct Store {
     slots: Vec<Slot>,
+    watching: Watching,
 }
 
 impl Model for Store {
-    ghost use Rattle.std.specs.Prelude.{[]};
     ghost use Rattle.nogood_store.specs.Holding.{Holding};
-    ghost use Rattle.nogood_store.specs.Kept.{SlotsAscend, held_of};
+    ghost use Rattle.nogood_store.specs.Kept.{held_of};
+    ghost use Rattle.nogood_store.specs.inner.Watching.{IsStored, looks_of};
 
     ghost Value = { Holding };
 
-    ghost view = { λ s. record { held = held_of s.slots.items; looked = [] } };
+    ghost view = { λ s. record { held = held_of s.slots.items; looked = looks_of s.watching.looked.items } };
 
-    ghost invariant = { λ s. SlotsAscend s.slots.items };
+    ghost invariant = { λ s. IsStored s.slots.items s.watching };
 }
 
 // The list in the opposite order.
@@ -54,6 +56,7 @@ impl Store {
         let mut rest = reversed(alloc, input)?;
         let mut store = Store {
             slots: Vec::new(alloc),
+            watching: Watching::new(alloc),
         };
         let count = rest.len() as u64;
         let mut id = 0;
@@ -82,7 +85,8 @@ impl Store {
     /// Sets the opposite of the one literal that is open in a held nogood whose others are true, and so on
     /// until nothing is left to set, or all literals of a held nogood are true.
     ///
-    /// Each round looks at every literal of every held nogood.
+    /// It looks at a nogood when one of its two watched literals becomes true. A nogood that was added since the
+    /// last call is looked at as a whole, and again in each call while no two of its literals can be watched.
     pub fn unit_propagate(&mut self, trail: &mut Trail) -> Result<Unit, Memory>
         requires named { AllNamed trail.old.shape self.old.held }
         requires looked { IsFront self.old.looked (seen_of trail.old.entries) }
@@ -91,16 +95,16 @@ impl Store {
         ensures held { self.new.held ≡ self.old.held }
         ensures looked { IsFront self.new.looked (seen_of trail.new.entries) }
     {
-        propagate(&self.slots, trail)
+        propagate(&self.slots, &mut self.watching, trail)
     }
 
     /// Forgets what it saw past the trail's length: to be called after the trail was undone.
-    pub fn undo(&mut self, _trail: &Trail)
+    pub fn undo(&mut self, trail: &Trail)
         ensures held { self.new.held ≡ self.old.held }
         ensures front { IsFront self.new.looked self.old.looked }
-        ensures within { length self.new.looked ≤ length _trail.now.entries }
+        ensures within { length self.new.looked ≤ length trail.now.entries }
     {
-        let _ = &self.slots;
+        shorten(&mut self.watching, trail.length());
     }
 
     /// The nogood that is held under the id. O(log n) in the number of held nogoods.

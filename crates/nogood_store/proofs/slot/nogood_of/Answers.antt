@@ -1,7 +1,4 @@
-use Rattle.std.proofs.Common.{arith, ap, sym, ◌∙◌, []}
-use Rattle.nogood_store.specs.declared.slot.Slot.{Slot}
-use Rattle.nogood_store.specs.Holding.{nogood_under}
-use Rattle.nogood_store.specs.Kept.{held_of}
+use Rattle.std.proofs.Common.{arith, sym, []}
 use Rattle.nogood_store.proofs.HeldLaws.{search_up, search_down, search_ends, found_under}
 use Rattle.nogood_store.proofs.slot.nogood_of.Goals as goal
 use Rattle.nogood_store.proofs.slot.nogood_of.Goals.{else-low-slots-via-then-low-slots+else-slots-low, else-low-slots-via-else-low-slots}
