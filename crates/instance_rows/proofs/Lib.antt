@@ -1,3 +1,4 @@
 pub mod TestLemmas
 pub mod LeafLemmas
 pub mod RowLemmas
+pub mod PossibleLemmas

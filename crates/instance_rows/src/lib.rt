@@ -8,4 +8,6 @@
 
 mod laws;
 
-pub use laws::{searches_find_rows, tests_find_instances, tests_find_overflow};
+pub use laws::{
+    rows_find_possible_atoms, searches_find_rows, tests_find_instances, tests_find_overflow,
+};

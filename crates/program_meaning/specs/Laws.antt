@@ -27,7 +27,7 @@ use Rattle.program_meaning.specs.Substitution.{Value, Key, substituted}
 use Rattle.program_meaning.specs.Collected.{is_small_form, collected}
 use Rattle.program_meaning.specs.Exact.{exact}
 use Rattle.program_meaning.specs.Theory.{HasForm, place_cmp}
-use Rattle.program_meaning.specs.Instance.{bound_in, bound_in_element, bound_in_choice, IsPossible, IsRelevantOf, IsRelevantChoice, IsRelevantElement}
+use Rattle.program_meaning.specs.Instance.{IsInstance, PositiveHas, CanGive, bound_in, bound_in_element, bound_in_choice, IsPossible, IsRelevantOf, IsRelevantChoice, IsRelevantElement}
 use Rattle.program_meaning.specs.Tuples.{IsTuple, OccursInForm}
 use Rattle.program_meaning.specs.Ground.{RelationAs, IsRuleOfProgram}
 use Rattle.program_meaning.specs.Canonical.{linear_numbered, place_numbered, relation_numbered, IsVariable, GroundView, view_of, IsCanonical}
@@ -101,6 +101,13 @@ abbrev pub ClosedLaw : Type 0
 ClosedLaw =
     (rules : List ReadRule) (set : Symbol → Bool) → ((rule : ReadRule) → IsMember rules rule → IsClosedUnder set rule)
     → (a : Symbol) → IsPossible rules a → IsIn set a
+
+-- what an instance can give whose positive atoms are possible is possible
+abbrev pub GivesLaw : Type 0
+GivesLaw =
+    (rules : List ReadRule) (rule : ReadRule) → IsMember rules rule → (values : List Value) → IsInstance rule values
+    → AllByRecursion (PositiveHas (IsPossible rules) (bound_in rule values)) (plains rule.body)
+    → (a : Symbol) → CanGive (IsPossible rules) rule values rule.head a → IsPossible rules a
 
 -- a set that grows stays closed under a rule that reads none of the atoms that it gets
 abbrev pub GrowsLaw : Type 0

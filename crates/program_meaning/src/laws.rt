@@ -1,5 +1,5 @@
 // What follows from the definitions. Each function's contract is the law, and its body is empty.
-ghost use Rattle.program_meaning.specs.Laws.{OneLaw, PossibleLaw, SameModelsLaw, DownLaw, UpLaw, ObjectiveLaw, CountLaw, TuplesLaw, VariablesLaw, ClosedLaw, GrowsLaw, LevelLaw, FallLaw, SearchLaw, PreparedLaw, StartLaw, LeafLaw, SafeLaw, MeetsLaw, SafeConditionLaw, StartWithLaw, StartsLaw, LocalsLaw, LeafElementLaw, MeetsElementLaw, MeetsChoiceLaw, CollectedLaw, OrdinaryLaw, FormLaw, SoundTermLaw, SoundTuplesLaw, FewVariablesLaw, SoundRelationLaw, SoundValuesLaw};
+ghost use Rattle.program_meaning.specs.Laws.{OneLaw, PossibleLaw, SameModelsLaw, DownLaw, UpLaw, ObjectiveLaw, CountLaw, TuplesLaw, VariablesLaw, ClosedLaw, GivesLaw, GrowsLaw, LevelLaw, FallLaw, SearchLaw, PreparedLaw, StartLaw, LeafLaw, SafeLaw, MeetsLaw, SafeConditionLaw, StartWithLaw, StartsLaw, LocalsLaw, LeafElementLaw, MeetsElementLaw, MeetsChoiceLaw, CollectedLaw, OrdinaryLaw, FormLaw, SoundTermLaw, SoundTuplesLaw, FewVariablesLaw, SoundRelationLaw, SoundValuesLaw};
 
 /// Two canonical ground programs of a program are equal, each id read as its symbol.
 pub fn canonical_programs_are_one()
@@ -31,10 +31,12 @@ pub fn lists_decide_limits()
     ensures variables { VariablesLaw }
 {}
 
-/// A set of atoms that is closed under all rules has all possible atoms (`all`), and a set that grows stays
-/// closed under a rule that reads none of the atoms that it gets (`grows`).
+/// A set of atoms that is closed under all rules has all possible atoms (`all`), what an instance can give whose
+/// positive atoms are possible is possible (`gives`), and a set that grows stays closed under a rule that reads
+/// none of the atoms that it gets (`grows`).
 pub fn closed_sets_have_possible_atoms()
     ensures all { ClosedLaw }
+    ensures gives { GivesLaw }
     ensures grows { GrowsLaw }
 {}
 
