@@ -1,0 +1,32 @@
+-- What follows from the definitions.
+use Rattle.std.specs.Prelude.{◌≡◌, ℕ, List, map}
+use Rattle.syntax_tree.specs.declared.statement.Statement.{Statement}
+use Rattle.rewriting.specs.Rewritten.{rewritten_statement}
+use Rattle.rewriting.specs.Order.{order_of_statement}
+use Rattle.program_meaning.specs.Read.{PlainLiteral, ReadLiteral, ReadRule, program_read}
+use Rattle.safety_meaning.specs.Program.{program_of}
+use Rattle.safety_meaning.specs.Failures.{Failure, IsFirstFailure, AreFine}
+use Rattle.safety_meaning.specs.Ordered.{IsOrderedBody, IsOrderedCondition}
+
+-- the program that statements stand for is that of the statements rewritten, with their orders
+abbrev pub ReadLaw : Type 0
+ReadLaw = (statements : List Statement) → program_read (map rewritten_statement statements) (map order_of_statement statements) ≡ program_of statements
+
+-- statements have one first failure at most
+abbrev pub OneFailureLaw : Type 0
+OneFailureLaw =
+    (statements : List Statement) (place other : ℕ) (failure another : Failure) → IsFirstFailure statements place failure → IsFirstFailure statements other another
+    → (place ≡ other) × (failure ≡ another)
+
+-- and none where every rule is fine
+abbrev pub FineLaw : Type 0
+FineLaw = (statements : List Statement) (place : ℕ) (failure : Failure) → IsFirstFailure statements place failure → AreFine statements → ⊥
+
+-- a body has one order at most
+abbrev pub OneBodyLaw : Type 0
+OneBodyLaw = (body one other : List ReadLiteral) → IsOrderedBody body one → IsOrderedBody body other → one ≡ other
+
+-- and so has a condition
+abbrev pub OneConditionLaw : Type 0
+OneConditionLaw =
+    (rule : ReadRule) (condition one other : List PlainLiteral) → IsOrderedCondition rule condition one → IsOrderedCondition rule condition other → one ≡ other

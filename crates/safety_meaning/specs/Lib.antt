@@ -1,0 +1,4 @@
+pub mod Program
+pub mod Failures
+pub mod Ordered
+pub mod Laws
