@@ -1,0 +1,10 @@
+pub mod QuietLaws
+pub mod LevelLaws
+pub mod EventLaws
+pub mod LineLaws
+pub mod HoldLaws
+pub mod SearchLaws
+pub mod TurnLaws
+pub mod SeekLaws
+pub mod RoomLaws
+pub mod FirstLaws

@@ -1,0 +1,4 @@
+pub mod Levels
+pub mod Invariant
+pub mod Lines
+pub mod Rooms
