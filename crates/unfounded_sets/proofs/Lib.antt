@@ -2,6 +2,8 @@ pub mod CanonicalLemmas
 pub mod DependenceLemmas
 pub mod ReasonLemmas
 pub mod FoundedLemmas
+pub mod SourceLemmas
+pub mod CutLemmas
 pub mod LawLemmas
 pub mod RowLemmas
 pub mod OpenLemmas

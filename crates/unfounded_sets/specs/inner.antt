@@ -1,3 +1,5 @@
 pub mod Rows
 pub mod Outer
 pub mod Open
+pub mod Sources
+pub mod Kept

@@ -1,5 +1,6 @@
 // Rows of numbers, side by side in one list.
 ghost use Rattle.std.specs.Prelude.{◌≡◌, ◌<◌, ◌≤◌, ◌++◌, [], ◌∷◌, length, slice_index, slice_index_or, OnOk, OnErr};
+ghost use Rattle.unfounded_sets.specs.Dependence.{row_of};
 ghost use Rattle.unfounded_sets.specs.inner.Rows.{rows_from, row_start, AreEnds};
 
 use std::alloc::Global;
@@ -65,6 +66,17 @@ impl Rows {
         ensures { result.now ≡ slice_index_or self.now place [] }
     {
         stretch(&self.ends, &self.items, place)
+    }
+
+    // The row of that number, counted from 1: empty where there is none.
+    #[inline]
+    pub(crate) fn numbered(&self, number: u32) -> &[u32]
+        ensures { result.now ≡ row_of self.now number }
+    {
+        if number == 0 || number as usize > self.len() {
+            return &[];
+        }
+        self.row(number as usize - 1)
     }
 }
 

@@ -3,13 +3,13 @@ ghost use Rattle.std.specs.Prelude.{◌≡◌, IfOk, IfSome, IfNone};
 ghost use Rattle.linear_normal.specs.Numbering.{numbering};
 ghost use Rattle.unfounded_sets.specs.Dependence.{dependence_of, Fits};
 ghost use Rattle.unfounded_sets.specs.Loops.{IsLoopFree, IsLoop, AreSupported};
-ghost use Rattle.unfounded_sets.specs.inner.Outer.{IsWhole, of_parts};
 
 use crate::dependence::positive_rows;
-use crate::flags::left;
-use crate::founded::given;
-use crate::reason::{make_reason, named_atom, outer};
+use crate::groups::{Groups, find_groups};
+use crate::loops::find_loop;
+use crate::lost::find_lost;
 use crate::rows::Rows;
+use crate::sources::{Sources, no_sources};
 use ground_model::GroundProgram;
 use linear_normal::{Numbered, Support};
 use literals::Reason;
@@ -25,40 +25,20 @@ pub struct Unfounded {
     atoms: u32,
     bodies: Rows,
     supports: Listed<Support>,
+    groups: Groups,
+    sources: Sources,
 }
 
 impl Model for Unfounded {
     ghost use Rattle.unfounded_sets.specs.Dependence.{Dependence};
     ghost use Rattle.unfounded_sets.specs.inner.Outer.{IsWhole, of_parts};
+    ghost use Rattle.unfounded_sets.specs.inner.Kept.{AreGrouped, AreSourced};
 
     ghost Value = { Dependence };
 
     ghost view = { λ u. of_parts u.atoms u.bodies u.supports };
 
-    ghost invariant = { λ u. IsWhole (of_parts u.atoms u.bodies u.supports) };
-}
-
-// The loop nogood of an atom that no derivation reaches, where there is one.
-fn find_loop(
-    alloc: Global,
-    atoms: u32,
-    bodies: &Rows,
-    supports: &[Support],
-    trail: &Trail,
-) -> Result<Option<Reason>, Memory>
-    requires fits { Fits (of_parts atoms bodies.now supports.now) trail.now.shape }
-    requires whole { IsWhole (of_parts atoms bodies.now supports.now) }
-    ensures none { IfOk result (λ found. IfNone found (IsLoopFree (of_parts atoms bodies.now supports.now) trail.now)) }
-    ensures some { IfOk result (λ found. IfSome found (IsLoop (of_parts atoms bodies.now supports.now) trail.now)) }
-{
-    let given = given(alloc, atoms, bodies, supports, trail)?;
-    let set = left(alloc, given.items())?;
-    let Some(atom) = named_atom(&set, trail) else {
-        return Ok(None);
-    };
-    let outside = outer(alloc, bodies, supports, given.items())?;
-    let reason = make_reason(alloc, set, atom, &outside)?;
-    Ok(Some(reason))
+    ghost invariant = { λ u. IsWhole (of_parts u.atoms u.bodies u.supports) × AreGrouped u.bodies u.supports u.groups × AreSourced u.bodies u.supports u.groups u.sources };
 }
 
 impl Unfounded {
@@ -74,10 +54,15 @@ impl Unfounded {
     {
         let bodies = positive_rows(alloc, numbered.bodies.items())?;
         let supports = Listed::from_slice(alloc, numbered.supports.items())?;
+        let atoms = ground.atoms.len() as u32;
+        let groups = find_groups(alloc, atoms, &bodies, supports.items())?;
+        let sources = no_sources(alloc, atoms, &bodies, supports.items(), &groups)?;
         Ok(Unfounded {
-            atoms: ground.atoms.len() as u32,
+            atoms,
             bodies,
             supports,
+            groups,
+            sources,
         })
     }
 
@@ -102,7 +87,9 @@ impl Unfounded {
 
     /// The same on a trail at rest, on which each atom that is not false has a support that is not false.
     ///
-    /// At most what `find` costs.
+    /// Where no atom on a cycle has lost its source it reads one truth for each, and where there is no cycle
+    /// nothing. Else it seeks sources anew, linear in the supports of such atoms; where some remain without
+    /// one it is linear in the program.
     pub fn find_at_rest(&mut self, alloc: Global, trail: &Trail) -> Result<Option<Reason>, Memory>
         requires fits { Fits self.old trail.now.shape }
         requires supported { AreSupported self.old trail.now }
@@ -110,6 +97,14 @@ impl Unfounded {
         ensures some { IfOk result (λ found. IfSome found (IsLoop self.old trail.now)) }
         ensures same { self.new ≡ self.old }
     {
-        self.find(alloc, trail)
+        find_lost(
+            alloc,
+            self.atoms,
+            &self.bodies,
+            self.supports.items(),
+            &self.groups,
+            &mut self.sources,
+            trail,
+        )
     }
 }

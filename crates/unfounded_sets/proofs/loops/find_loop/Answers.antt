@@ -3,7 +3,7 @@ use Rattle.std.specs.List.{AllByRecursion}
 use Rattle.ground_model.specs.Answers.{IsNumbered}
 use Rattle.unfounded_sets.specs.inner.Outer.{of_parts, left_of, is_left, outer_bodies, IsNamed}
 use Rattle.unfounded_sets.proofs.FoundedLemmas.{left_numbered, set_is, atoms_below, rows_below, outer_above, named_above, found_none, found_some}
-use Rattle.unfounded_sets.proofs.unfounded.find_loop.Goals as goal
+use Rattle.unfounded_sets.proofs.loops.find_loop.Goals as goal
 
 pub named_atom-requires : goal.named_atom-requires
 named_atom-requires c =
