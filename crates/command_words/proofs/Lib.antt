@@ -5,3 +5,4 @@ mod WalkLemmas
 mod UseLemmas
 mod ReadLemmas
 mod ReadingLemmas
+pub mod RangeLemmas

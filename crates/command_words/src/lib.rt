@@ -8,6 +8,7 @@
 
 mod command;
 mod forms;
+mod laws;
 mod numbers;
 mod program;
 mod reading;
@@ -15,6 +16,7 @@ mod settings;
 mod stop;
 mod usage;
 
+pub use laws::{checker_settings_are_within, solver_settings_are_within};
 pub use reading::{checker_settings, solver_settings};
 pub use settings::{CheckerSettings, SolverSettings};
 pub use stop::WordsStop;

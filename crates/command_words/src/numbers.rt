@@ -4,8 +4,10 @@ ghost use Rattle.std.specs.Char.{is_ascii_digit};
 ghost use Rattle.std.specs.List.{list_all};
 ghost use Rattle.command_words.specs.Numbers.{is_decimal, number_within, integer_within};
 
+use symbols::limits::MAX_END;
+
 /// The greatest end; the least is its opposite.
-const WIDEST: u64 = 1_073_741_823;
+const WIDEST: u64 = MAX_END as u64;
 
 /// Whether each byte is a decimal digit.
 fn are_digits(bytes: &[u8]) -> bool

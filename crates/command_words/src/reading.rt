@@ -13,13 +13,8 @@ use crate::settings::{CheckerSettings, SolverSettings};
 use crate::stop::WordsStop;
 use clap::ArgMatches;
 use std::alloc::Global;
+use symbols::limits::{DEFAULT_GROUND_LIMIT, MAX_END, MAX_FILES, MAX_GROUND_LIMIT, MIN_END};
 use symbols::{Ends, Listed, Memory};
-
-/// The most FILEs that a program takes.
-const MOST_FILES: usize = 65_536;
-
-/// The greatest end; the least is its opposite.
-const WIDEST: i32 = 1_073_741_823;
 
 /// The number that an option is given, if it is.
 fn number_given(
@@ -97,8 +92,8 @@ fn ends_or_widest(matches: &ArgMatches) -> Result<Ends, WordsStop>
     ensures ok { IfOk result (λ ends. ends_found (rows_of (found_of matches.now)) ≡ Some (ends.min, ends.max)) }
     ensures usage { IfErr result (λ _. ends_found (rows_of (found_of matches.now)) ≡ None) }
 {
-    let min = end_or(matches, "--min-int", -WIDEST)?;
-    let max = end_or(matches, "--max-int", WIDEST)?;
+    let min = end_or(matches, "--min-int", MIN_END)?;
+    let max = end_or(matches, "--max-int", MAX_END)?;
     if min <= max {
         Ok(Ends { min, max })
     } else {
@@ -124,7 +119,7 @@ fn list_files<'a>(alloc: Global, files: &[&'a str]) -> Result<Listed<&'a str>, W
     ensures ok { IfOk result (λ list. few_files (map (λ v. v.now) files.now) ≡ Some (map (λ v. v.now) list)) }
     ensures usage { IfErr result (λ e. e ≡ WordsStop.Usage → few_files (map (λ v. v.now) files.now) ≡ None) }
 {
-    if files.len() > MOST_FILES {
+    if files.len() > MAX_FILES {
         return Err(WordsStop::Usage);
     }
     match Listed::from_slice(alloc, files) {
@@ -155,7 +150,13 @@ fn solver_found<'a>(
     let answers = number_given(matches, "-n", 0, u64::MAX)?;
     let conflicts = number_or(matches, "--conflicts", u64::MAX, 1, u64::MAX)?;
     let ends = ends_or_widest(matches)?;
-    let ground_limit = number_or(matches, "--ground-limit", 1_048_576, 1, 4_194_304)?;
+    let ground_limit = number_or(
+        matches,
+        "--ground-limit",
+        DEFAULT_GROUND_LIMIT,
+        1,
+        MAX_GROUND_LIMIT,
+    )?;
     let files = files_given(alloc, matches)?;
     Ok(SolverSettings {
         answers,
