@@ -5,6 +5,7 @@
 #![tactic(auto)]
 
 mod bytes;
+mod checking;
 mod comment;
 mod law;
 mod lexeme;
@@ -17,6 +18,7 @@ mod string;
 mod token;
 mod word;
 
+pub use checking::first_fault;
 pub use law::one_answer;
 pub use place::line_column;
 pub use reading::tokens;

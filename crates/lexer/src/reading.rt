@@ -71,7 +71,8 @@ fn read(alloc: Global, text: &[u8]) -> Result<Listed<Token>, LexStop>
 /// The tokens of a text, or its first fault. Time is linear in the text, and no memory is taken but
 /// for the tokens.
 ///
-/// That a text is UTF-8 is looked for first. `one_answer` says that a text has one answer.
+/// That a text is UTF-8 is looked for first. A text has an answer, as `first_fault` says, and no other, as `one_answer`
+/// says.
 pub fn tokens(alloc: Global, text: &[u8]) -> Result<Listed<Token>, LexStop>
     ensures ok { IfOk result (λ tokens. IsTokenisation text.now tokens) }
     ensures each { IfOk result (λ tokens. All (IsTokenOf text.now) tokens) }
