@@ -6,7 +6,7 @@ ghost use Rattle.theory_grammar.specs.TheoryParts.{with_bad};
 use grammar::{Check, Failing};
 use std::alloc::Global;
 use symbols::Listed;
-use theory_grammar::{Seen, sooner_if, sooner_term};
+use theory_grammar::{Names, Seen, sooner_if, sooner_term};
 
 // What was seen of a statement so far, and the check that fails first but for the terms that were seen to be bad.
 #[derive(Drop)]
@@ -21,7 +21,7 @@ impl Kept {
     {
         Kept {
             seen: Seen {
-                names: Listed::new(alloc),
+                names: Names::new(alloc),
                 places: Listed::new(alloc),
                 bad: None,
             },

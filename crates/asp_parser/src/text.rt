@@ -74,7 +74,7 @@ fn statement(
                 head,
                 body,
                 arrow,
-                names: seen.names,
+                names: seen.names.into_list(),
                 places,
             }))
         }
@@ -131,7 +131,7 @@ fn statements(alloc: Global, text: &[u8], tokens: &[Token]) -> Result<Listed<Sta
 /// The statements of a text, in order, or its first fault: that of lexing, or of the first statement that is
 /// none or in which a check fails. Within a statement a place where none goes on comes before a failed check.
 ///
-/// Time is linear in the text, but for the search of each variable among the names of its rule.
+/// Time is linear in the text.
 pub fn parse(alloc: Global, text: &[u8]) -> Result<Listed<Statement>, TextStop>
     // What is read are the statements of the text, in which no check fails, as trees that keep the rules on trees.
     ensures found { IfOk result (FoundText text.now) }

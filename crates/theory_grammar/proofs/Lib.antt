@@ -14,3 +14,4 @@ pub mod TheoryReads
 pub mod FirstFails
 pub mod TheoryLemmas
 pub mod NamedRules
+pub mod NameNumbers

@@ -4,3 +4,4 @@ pub mod Parsed
 pub mod TheoryState
 pub mod TheoryParts
 pub mod ParsedTheory
+pub mod inner

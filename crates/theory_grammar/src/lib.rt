@@ -3,7 +3,8 @@
 //! `parse_term` and `parse_theory` read on while a term or a theory atom of the grammar can continue, and give the
 //! tree of what was read with its variables, or the first place where none continues. A failed check inside is
 //! given beside the tree, so that it hides no later syntax error. The readers under them, by words from 0, are there
-//! for whole statements. Stands on `grammar` for what words derive.
+//! for whole statements. Stands on `grammar` for what words derive, and on `indexmap` for the table that finds a
+//! variable by its name.
 #![tactic(auto)]
 
 mod comparison;
@@ -25,6 +26,7 @@ mod words;
 pub use comparison::{compared, judged_term};
 pub use condition::{atom, given, positive};
 pub use fault::{ParseCause, ParseFault, ParseStop, Stop};
+pub use names::Names;
 pub use parse::{MAX_DEPTH, ParsedTerm, parse_term};
 pub use places::{Place, give_starts};
 pub use read_term::ReadTerm;

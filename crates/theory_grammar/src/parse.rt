@@ -1,18 +1,17 @@
 // The term at a token.
-ghost use Rattle.std.specs.Prelude.{◌≡◌, ◌+◌, ◌-◌, ◌≤◌, length, IfOk, IfErr};
+ghost use Rattle.std.specs.Prelude.{◌≡◌, ◌+◌, ◌≤◌, length, IfOk, OnErr};
 ghost use Rattle.lexer.specs.Parts.{IsTokenisation};
 ghost use Rattle.theory_grammar.specs.Kept.{place_of as place_there};
 ghost use Rattle.theory_grammar.specs.Parsed as spec;
 
 use crate::fault::{ParseCause, ParseFault, ParseStop, Stop};
-use crate::places::give_starts;
+use crate::places::add_starts;
 use crate::read_term::ReadTerm;
 use crate::seen::Seen;
 use crate::term::term;
 use grammar::Shape;
 use lexer::Token;
 use std::alloc::Global;
-use std::mem::replace;
 use symbols::Listed;
 use syntax_tree::{Name, Term};
 
@@ -85,8 +84,8 @@ pub(crate) fn stopped(text: &[u8], tokens: &[Token], stop: Stop) -> ParseStop
 /// its variables, and the places of its arguments that are intervals, to those so far. Whether the whole term
 /// may be an interval is judged by the caller.
 ///
-/// Time is linear in the tokens, but for the search of each variable among the names. On a refusal `names` and
-/// `places` may hold new entries.
+/// Time is linear in the tokens that are read and in the names so far. A refusal leaves `names` and `places` as they
+/// were.
 pub fn parse_term(
     alloc: Global,
     text: &[u8],
@@ -106,30 +105,32 @@ pub fn parse_term(
 
     // A fault stands at the first place where no term goes on, and says whether one that nests deeper does.
     ensures fault { spec.IsTermFault text.now tokens.now from result }
+
+    // A refusal adds nothing.
+    ensures refused { OnErr result ((names.new ≡ names.old) × (places.new ≡ places.old)) }
 {
-    let mut seen = Seen {
-        names: replace(names, Listed::new(alloc)),
-        places: Listed::new(alloc),
-        bad: None,
-    };
-    let result = term(alloc, text, tokens, from - 1, MAX_DEPTH, &mut seen);
-    let Seen {
-        names: all_names,
-        places: all_places,
-        bad,
-    } = seen;
-    *names = all_names;
-    match give_starts(places, all_places) {
-        Ok(()) => {}
+    let mut seen = match Seen::behind(alloc, names.items()) {
+        Ok(seen) => seen,
         Err(_) => return Err(ParseStop::Memory),
-    }
-    match result {
-        Ok(read) => Ok(ParsedTerm {
-            term: read.term,
-            next: read.next + 1,
-            is_atom: is_atom(read.shape),
-            fault: bad_term(text, tokens, bad),
-        }),
+    };
+    match term(alloc, text, tokens, from - 1, MAX_DEPTH, &mut seen) {
+        Ok(read) => {
+            let Seen {
+                names: all_names,
+                places: all_places,
+                bad,
+            } = seen;
+            match add_starts(alloc, places, all_places) {
+                Ok(()) => *names = all_names.into_list(),
+                Err(_) => return Err(ParseStop::Memory),
+            }
+            Ok(ParsedTerm {
+                term: read.term,
+                next: read.next + 1,
+                is_atom: is_atom(read.shape),
+                fault: bad_term(text, tokens, bad),
+            })
+        }
         Err(stop) => Err(stopped(text, tokens, stop)),
     }
 }

@@ -1,8 +1,9 @@
 // Places that were seen, and one that is found late, among those that follow it.
-ghost use Rattle.std.specs.Prelude.{◌≡◌, ◌≤◌, ◌<◌, ◌++◌, ◌∷◌, length, map, take, drop, OnOk};
+ghost use Rattle.std.specs.Prelude.{◌≡◌, ◌≤◌, ◌<◌, ◌++◌, ◌∷◌, length, map, take, drop, OnOk, OnErr};
 ghost use Rattle.theory_grammar.specs.State.{noted};
 
 use lexer::Token;
+use std::alloc::Global;
 use symbols::{Listed, Memory};
 
 /// Where a variable, a `_`, an interval that is an argument, or an atom stands.
@@ -57,4 +58,18 @@ pub fn give_starts(starts: &mut Listed<usize>, places: Listed<Place>) -> Result<
     ensures { OnOk result (starts.new ≡ starts.old ++ map (λ place. place.start) places) }
 {
     write_starts(starts, places.items())
+}
+
+// Adds where places begin to those so far, or leaves these as they were.
+pub(crate) fn add_starts(
+    alloc: Global,
+    starts: &mut Listed<usize>,
+    places: Listed<Place>,
+) -> Result<(), Memory>
+    ensures ok { OnOk result (starts.new ≡ starts.old ++ map (λ place. place.start) places) }
+    ensures err { OnErr result (starts.new ≡ starts.old) }
+{
+    let mut more = Listed::new(alloc);
+    give_starts(&mut more, places)?;
+    starts.append(more.items())
 }

@@ -1,10 +1,10 @@
 // What was seen while reading.
-ghost use Rattle.std.specs.Prelude.{◌≡◌, ◌<◌, ◌≤◌, ◌==◌, true, false, ◌++◌, ◌∷◌, [], length, take, drop, OnOk, IfOk};
+ghost use Rattle.std.specs.Prelude.{◌≡◌, ◌<◌, ◌≤◌, ◌==◌, true, false, ◌++◌, ◌∷◌, [], None, length, take, drop, OnOk, IfOk};
 ghost use Rattle.grammar.specs.Check.{places_where};
 ghost use Rattle.grammar.specs.Tree.{number_of};
 ghost use Rattle.theory_grammar.specs.State.{lesser, least, refused, noted, argued, with_name};
 
-use crate::names::number_for;
+use crate::names::Names;
 use crate::places::{Place, insert, place_at};
 use grammar::Shape;
 use lexer::Token;
@@ -16,7 +16,7 @@ use syntax_tree::Name;
 #[derive(Drop)]
 pub struct Seen {
     /// The named variables by number, from 1.
-    pub names: Listed<Name>,
+    pub names: Names,
     /// In the text's order, an interval and an atom before what is inside it.
     pub places: Listed<Place>,
     /// The least word, by its number from 0, where a term stands that may not, or a mark.
@@ -34,6 +34,17 @@ fn lesser(so_far: Option<usize>, at: usize) -> Option<usize>
 }
 
 impl Seen {
+    // Nothing was seen yet of a rule with these names.
+    pub(crate) fn behind(alloc: Global, names: &[Name]) -> Result<Seen, Memory>
+        ensures { IfOk result (λ seen. seen ≡ record { names = names.now; places = []; bad = None }) }
+    {
+        Ok(Seen {
+            names: Names::copied(alloc, names)?,
+            places: Listed::new(alloc),
+            bad: None,
+        })
+    }
+
     // Notes where a variable stands.
     pub(crate) fn see(&mut self, tokens: &[Token], at: usize, adds: bool) -> Result<(), Memory>
         requires { at < length tokens.now }
@@ -54,7 +65,7 @@ impl Seen {
         ensures { IfOk result (λ number. (self.new ≡ record self.old { names = with_name self.old.names name.now; places = self.old.places ++ noted tokens.now at (number_of self.old.names name.now == 0) ∷ [] }) × (number ≡ number_of self.new.names name.now)) }
     {
         let known = self.names.len();
-        let number = number_for(alloc, &mut self.names, name)?;
+        let number = self.names.number(alloc, name)?;
         let adds = known < self.names.len();
         self.see(tokens, at, adds)?;
         Ok(number)

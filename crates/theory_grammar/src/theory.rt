@@ -1,5 +1,5 @@
 // The theory atom at a token.
-ghost use Rattle.std.specs.Prelude.{◌≡◌, ◌+◌, ◌-◌, ◌<◌, ◌≤◌, ◌∷◌, true, length, None, IfOk};
+ghost use Rattle.std.specs.Prelude.{◌≡◌, ◌+◌, ◌-◌, ◌<◌, ◌≤◌, ◌∷◌, true, length, None, IfOk, OnErr};
 ghost use Rattle.grammar.specs.Check as checks;
 ghost use Rattle.grammar.specs.Spelled.{AreTokens, bytes_at as bytes_there, word_by};
 ghost use Rattle.grammar.specs.Word.{words_at, is_next};
@@ -13,7 +13,7 @@ use crate::comparison::guard;
 use crate::element::elements;
 use crate::fault::{ParseCause, ParseFault, ParseStop, Stop};
 use crate::parse::{fault_at, stopped};
-use crate::places::give_starts;
+use crate::places::add_starts;
 use crate::seen::Seen;
 use crate::theory_names::{is_bad_guard, is_unknown, relation_of, theory_name};
 use grammar::{Check, Failing, Mark, WordKind, bytes_at, is_mark, sooner, word_at};
@@ -208,8 +208,8 @@ fn first_fault(text: &[u8], tokens: &[Token], failing: Option<Failing>) -> Optio
 /// its variables, and the places of its variables, of its arguments that are intervals and of its atoms, to
 /// those so far. Whether it may stand there is judged by the caller.
 ///
-/// Time is linear in the tokens, but for the search of each variable among the names. On a refusal `names` and
-/// `places` may hold new entries.
+/// Time is linear in the tokens that are read and in the names so far. A refusal leaves `names` and `places` as they
+/// were.
 pub fn parse_theory(
     alloc: Global,
     text: &[u8],
@@ -229,25 +229,25 @@ pub fn parse_theory(
 
     // A fault stands at the first place where no theory atom goes on, and says whether one that nests deeper does.
     ensures fault { spec.IsTheoryFault text.now tokens.now from result }
+
+    // A refusal adds nothing.
+    ensures refused { OnErr result ((names.new ≡ names.old) × (places.new ≡ places.old)) }
 {
-    let mut seen = Seen {
-        names: replace(names, Listed::new(alloc)),
-        places: Listed::new(alloc),
-        bad: None,
-    };
-    let result = atom_parts(alloc, text, tokens, from - 1, &mut seen);
-    let Seen {
-        names: all_names,
-        places: all_places,
-        bad: _,
-    } = seen;
-    *names = all_names;
-    match give_starts(places, all_places) {
-        Ok(()) => {}
+    let mut seen = match Seen::behind(alloc, names.items()) {
+        Ok(seen) => seen,
         Err(_) => return Err(ParseStop::Memory),
-    }
-    match result {
+    };
+    match atom_parts(alloc, text, tokens, from - 1, &mut seen) {
         Ok(read) => {
+            let Seen {
+                names: all_names,
+                places: all_places,
+                bad: _,
+            } = seen;
+            match add_starts(alloc, places, all_places) {
+                Ok(()) => *names = all_names.into_list(),
+                Err(_) => return Err(ParseStop::Memory),
+            }
             let fault = first_fault(text, tokens, first_failing(None, &read, from - 1));
             Ok(ParsedTheory {
                 next: read.next + 1,
