@@ -27,3 +27,4 @@ pub mod TidiedReads
 pub mod ReadBack
 pub mod OneReading
 pub mod OneFault
+pub mod EveryText
