@@ -10,3 +10,4 @@ pub mod OneConstants
 pub mod OneTexts
 pub mod OneProgram
 pub mod OneOutcome
+pub mod SomeOutcome

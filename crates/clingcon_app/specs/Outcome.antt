@@ -1,11 +1,11 @@
 -- What a status of the top call says.
-use Rattle.std.specs.Prelude.{◌≡◌, ◌⊎◌, ℕ, ◌+◌, ◌==◌, ◌&&◌, nat_le, if◌then◌else◌, true, false, length, take, List, String}
+use Rattle.std.specs.Prelude.{◌≡◌, ◌⊎◌, ℕ, ◌+◌, ◌==◌, ◌&&◌, nat_le, if◌then◌else◌, true, false, length, take, List, [], String}
 use Rattle.std.specs.Global.{Global}
 use Rattle.std.specs.Io.KnownBytes.{Appends}
 use Rattle.outside_io.specs.Outputs.{Input, Output}
 use Rattle.clingcon_app.specs.Words.{are_files, names_of}
 use Rattle.clingcon_app.specs.Texts.{AreTexts, IsTooLarge, AreRefused, too_large_line}
-use Rattle.clingcon_app.specs.Printed.{PrintTexts, AreOther, not_built, satisfiable}
+use Rattle.clingcon_app.specs.Printed.{PrintTexts, AreOfForm, AreOther, not_built, satisfiable}
 
 -- the statuses of refusals
 abbrev pub IsRefusing : ℕ → Type 0
@@ -48,6 +48,18 @@ IsPrinted status files taken words printed =
     ⊎ ((status ≡ 65) × IsOf AreRefused files words printed)
     ⊎ ((status ≡ 70) × IsOversized files taken words printed)
     ⊎ ((status ≡ 71) × (IsOf IsUnbuilt files words printed ⊎ ((are_files words ≡ false) × (printed ≡ not_built))))
+
+-- the words name inputs whose texts have permitted sizes and a program of the first form
+abbrev pub IsAccepted : Input → List (String Global) → Type 0
+IsAccepted files words = IsOf (λ names texts printed. AreOfForm texts) files words []
+
+-- the words or the texts are refused with a line, at the status of its cause
+pub record IsRefusedWith (files : Input) (words : List (String Global)) : Type 0 where
+  pub status : ℕ
+  pub refusing : IsRefusing status
+  pub taken : ℕ
+  pub line : List ℕ
+  pub right : IsPrinted status files taken words line
 
 -- the cause of the status stands, and the output grew by what is printed then
 pub record IsEnded (status : ℕ) (files : Input) (taken : ℕ) (words : List (String Global)) (before after : Output) : Type 0 where

@@ -25,6 +25,13 @@ pub record PrintTexts (texts : List (List ℕ)) (printed : List ℕ) : Type 0 wh
   pub states : States program.statements stated
   pub prints : PrintsAnswer stated printed
 
+-- the texts have a program of the first form, which states rules
+pub record AreOfForm (texts : List (List ℕ)) : Type 0 where
+  pub program : Program
+  pub has : IsProgram texts program
+  pub stated : List SymbolRule
+  pub states : States program.statements stated
+
 -- the texts have a program that is not of the first form
 pub record AreOther (texts : List (List ℕ)) : Type 0 where
   pub program : Program
