@@ -1,6 +1,7 @@
 #!/bin/sh
-# Times the reading of 1.6 and 16 MiB of facts, and of ground rules: `clingcon` lexes and parses all of them, up to a fault in
-# the last line, which it tells. Linear time shows as a factor near ten. Prints seconds and the greatest memory taken.
+# Times the reading of 1.6 and 16 MiB of facts, of ground rules, and of one rule with its variables: `clingcon` lexes and parses all of
+# them, up to a fault in the last line or to the rule's end, and tells it. Linear time shows as a factor near ten. Prints seconds and the
+# greatest memory taken.
 # Usage: bench/text.sh [PROGRAM], crates/clingcon/out/clingcon where none is given.
 set -e
 top=$(cd "$(dirname "$0")/.." && pwd)
@@ -26,8 +27,18 @@ for bytes in 1677721 16777216; do
         }
         print "a b."
     }' > "$work/rules$bytes.lp"
+    awk -v most="$bytes" 'BEGIN {
+        printf "p(a"
+        for (n = 0; ; n++) {
+            word = ",X" n
+            size += length(word)
+            if (size > most - 7) break
+            printf "%s", word
+        }
+        print ")."
+    }' > "$work/variables$bytes.lp"
 done
-for kind in facts rules; do
+for kind in facts rules variables; do
     for bytes in 1677721 16777216; do
         printf '%s, %s bytes: ' "$kind" "$(wc -c < "$work/$kind$bytes.lp")"
         /usr/bin/time -f '%e s, %M KiB' "$program" "$work/$kind$bytes.lp" 2>&1 | tail -1
