@@ -1,12 +1,20 @@
 -- What follows from the definitions.
 use Rattle.std.specs.Prelude.{◌≡◌, ℕ, List, map}
+use Rattle.std.specs.List.{AllZip}
+use Rattle.symbols.specs.Symbol.{Symbol}
+use Rattle.symbols.specs.declared.ends.Ends.{Ends}
 use Rattle.syntax_tree.specs.declared.statement.Statement.{Statement}
 use Rattle.rewriting.specs.Rewritten.{rewritten_statement}
 use Rattle.rewriting.specs.Order.{order_of_statement}
 use Rattle.program_meaning.specs.Read.{PlainLiteral, ReadLiteral, ReadRule, program_read}
 use Rattle.safety_meaning.specs.Program.{program_of}
 use Rattle.safety_meaning.specs.Failures.{Failure, IsFirstFailure, AreFine}
+use Rattle.program_meaning.specs.Substitution.{Key}
+use Rattle.program_meaning.specs.Instance.{IsPossible, IsRelevant}
+use Rattle.program_meaning.specs.Count.{ExceedsLimit}
+use Rattle.program_meaning.specs.Outside.{Cause, IsFirstOutside}
 use Rattle.safety_meaning.specs.Ordered.{IsOrderedBody, IsOrderedCondition}
+use Rattle.safety_meaning.specs.Reordered.{IsReordered}
 
 -- the program that statements stand for is that of the statements rewritten, with their orders
 abbrev pub ReadLaw : Type 0
@@ -30,3 +38,24 @@ OneBodyLaw = (body one other : List ReadLiteral) → IsOrderedBody body one → 
 abbrev pub OneConditionLaw : Type 0
 OneConditionLaw =
     (rule : ReadRule) (condition one other : List PlainLiteral) → IsOrderedCondition rule condition one → IsOrderedCondition rule condition other → one ≡ other
+
+-- rules in another order of their bodies and conditions have the same possible atoms
+abbrev pub PossibleLaw : Type 0
+PossibleLaw =
+    (rules others : List ReadRule) → AllZip IsReordered rules others → (a : Symbol) → (IsPossible rules a → IsPossible others a) × (IsPossible others a → IsPossible rules a)
+
+-- and the same relevant instances
+abbrev pub RelevantLaw : Type 0
+RelevantLaw =
+    (rules others : List ReadRule) → AllZip IsReordered rules others → (key : Key) → (IsRelevant rules key → IsRelevant others key) × (IsRelevant others key → IsRelevant rules key)
+
+-- and ground counts that exceed the same limits
+abbrev pub CountLaw : Type 0
+CountLaw =
+    (rules others : List ReadRule) → AllZip IsReordered rules others → (limit : ℕ) → (ExceedsLimit rules limit → ExceedsLimit others limit) × (ExceedsLimit others limit → ExceedsLimit rules limit)
+
+-- and the same first instance that is outside, by the same cause
+abbrev pub OutsideLaw : Type 0
+OutsideLaw =
+    (rules others : List ReadRule) → AllZip IsReordered rules others → (ends : Ends) (key : Key) (cause : Cause)
+    → (IsFirstOutside rules ends key cause → IsFirstOutside others ends key cause) × (IsFirstOutside others ends key cause → IsFirstOutside rules ends key cause)

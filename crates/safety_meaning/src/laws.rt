@@ -1,5 +1,5 @@
 // What holds of programs of texts. Each function's contract is the law, and its body is empty.
-ghost use Rattle.safety_meaning.specs.Laws.{ReadLaw, OneFailureLaw, FineLaw, OneBodyLaw, OneConditionLaw};
+ghost use Rattle.safety_meaning.specs.Laws.{ReadLaw, OneFailureLaw, FineLaw, OneBodyLaw, OneConditionLaw, PossibleLaw, RelevantLaw, CountLaw, OutsideLaw};
 
 /// The program that statements stand for is that of the statements rewritten, with the orders that go with them.
 pub fn text_programs()
@@ -16,4 +16,14 @@ pub fn one_failure()
 pub fn one_order()
     ensures body { OneBodyLaw }
     ensures condition { OneConditionLaw }
+{}
+
+/// Rules in another order of their bodies and conditions have the same possible atoms (`possible`), the same
+/// relevant instances (`relevant`), ground counts that exceed the same limits (`count`), and the same first
+/// instance that is outside, by the same cause (`outside`).
+pub fn reordered_rules()
+    ensures possible { PossibleLaw }
+    ensures relevant { RelevantLaw }
+    ensures count { CountLaw }
+    ensures outside { OutsideLaw }
 {}
