@@ -6,3 +6,4 @@ pub mod Truths
 pub mod Reordering
 pub mod Counting
 pub mod Outer
+pub mod Wholes

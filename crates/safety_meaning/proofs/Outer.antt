@@ -29,7 +29,7 @@ use Rattle.safety_meaning.proofs.Counting.{theories_zip, choices_zip, bound_elem
 moved : {A B : Type 0} (M : A → B → Type 0) {a c : A} {b d : B} → a ≡ c → b ≡ d → M a b → M c d
 moved M {a} {c} {b} {d} e k h = subst (λ x. M x d) e (subst (M a) k h)
 
-exceeds_by : {X : Type 0} (P Q : X → Type 0) (limit : ℕ) → ((x : X) → P x → Q x) → Exceeds P limit → Exceeds Q limit
+pub exceeds_by : {X : Type 0} (P Q : X → Type 0) (limit : ℕ) → ((x : X) → P x → Q x) → Exceeds P limit → Exceeds Q limit
 exceeds_by P Q limit f h = record { shown = h.shown; apart = h.apart; each = every_from Q h.shown (λ x m. f x (every_at P h.shown x h.each m)); more = h.more }
 
 -- TESTS
@@ -213,7 +213,7 @@ module _ (P Q : Symbol → Type 0) (f : (a : Symbol) → P a → Q a) (g : (a : 
 
 -- PROGRAMS
 
-somehow_kept : (rules others : List ReadRule) → AllZip IsReordered rules others → (ends : Ends) (key : Key) → IsSomehowOutside rules ends key → IsSomehowOutside others ends key
+pub somehow_kept : (rules others : List ReadRule) → AllZip IsReordered rules others → (ends : Ends) (key : Key) → IsSomehowOutside rules ends key → IsSomehowOutside others ends key
 somehow_kept rules others zip ends key h =
     let r = relevant_of_kept rules others zip key h.0 h.1 in (
       r.0,

@@ -1,5 +1,5 @@
 -- What follows from the definitions.
-use Rattle.std.specs.Prelude.{◌≡◌, ℕ, List, map}
+use Rattle.std.specs.Prelude.{◌≡◌, ℕ, ℤ, List, map}
 use Rattle.std.specs.List.{AllZip}
 use Rattle.symbols.specs.Symbol.{Symbol}
 use Rattle.symbols.specs.declared.ends.Ends.{Ends}
@@ -12,7 +12,9 @@ use Rattle.safety_meaning.specs.Failures.{Failure, IsFirstFailure, AreFine}
 use Rattle.program_meaning.specs.Substitution.{Key}
 use Rattle.program_meaning.specs.Instance.{IsPossible, IsRelevant}
 use Rattle.program_meaning.specs.Count.{ExceedsLimit}
-use Rattle.program_meaning.specs.Outside.{Cause, IsFirstOutside}
+use Rattle.program_meaning.specs.Outside.{Cause, IsFirstOutside, IsWithinLimits}
+use Rattle.program_meaning.specs.Canonical.{IsVariable}
+use Rattle.program_meaning.specs.Models.{IsObjective}
 use Rattle.safety_meaning.specs.Ordered.{IsOrderedBody, IsOrderedCondition}
 use Rattle.safety_meaning.specs.Reordered.{IsReordered}
 
@@ -59,3 +61,20 @@ abbrev pub OutsideLaw : Type 0
 OutsideLaw =
     (rules others : List ReadRule) → AllZip IsReordered rules others → (ends : Ends) (key : Key) (cause : Cause)
     → (IsFirstOutside rules ends key cause → IsFirstOutside others ends key cause) × (IsFirstOutside others ends key cause → IsFirstOutside rules ends key cause)
+
+-- and the same integer variables
+abbrev pub VariableLaw : Type 0
+VariableLaw =
+    (rules others : List ReadRule) → AllZip IsReordered rules others → (x : Symbol) → (IsVariable rules x → IsVariable others x) × (IsVariable others x → IsVariable rules x)
+
+-- and the same objective under values of these
+abbrev pub ObjectiveLaw : Type 0
+ObjectiveLaw =
+    (rules others : List ReadRule) → AllZip IsReordered rules others → (values : Symbol → ℤ) (objective : ℤ)
+    → (IsObjective rules values objective → IsObjective others values objective) × (IsObjective others values objective → IsObjective rules values objective)
+
+-- and they are within the same limits
+abbrev pub LimitsLaw : Type 0
+LimitsLaw =
+    (rules others : List ReadRule) → AllZip IsReordered rules others → (ends : Ends) (limit : ℕ)
+    → (IsWithinLimits rules ends limit → IsWithinLimits others ends limit) × (IsWithinLimits others ends limit → IsWithinLimits rules ends limit)

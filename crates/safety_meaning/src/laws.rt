@@ -1,5 +1,5 @@
 // What holds of programs of texts. Each function's contract is the law, and its body is empty.
-ghost use Rattle.safety_meaning.specs.Laws.{ReadLaw, OneFailureLaw, FineLaw, OneBodyLaw, OneConditionLaw, PossibleLaw, RelevantLaw, CountLaw, OutsideLaw};
+ghost use Rattle.safety_meaning.specs.Laws.{ReadLaw, OneFailureLaw, FineLaw, OneBodyLaw, OneConditionLaw, PossibleLaw, RelevantLaw, CountLaw, OutsideLaw, VariableLaw, ObjectiveLaw, LimitsLaw};
 
 /// The program that statements stand for is that of the statements rewritten, with the orders that go with them.
 pub fn text_programs()
@@ -26,4 +26,12 @@ pub fn reordered_rules()
     ensures relevant { RelevantLaw }
     ensures count { CountLaw }
     ensures outside { OutsideLaw }
+{}
+
+/// Rules in another order of their bodies and conditions have the same integer variables (`variables`), the same
+/// objective under values of these (`objective`), and are within the same limits (`limits`).
+pub fn reordered_programs()
+    ensures variables { VariableLaw }
+    ensures objective { ObjectiveLaw }
+    ensures limits { LimitsLaw }
 {}

@@ -7,4 +7,4 @@
 
 mod laws;
 
-pub use laws::{one_failure, one_order, reordered_rules, text_programs};
+pub use laws::{one_failure, one_order, reordered_programs, reordered_rules, text_programs};
