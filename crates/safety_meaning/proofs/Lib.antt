@@ -7,3 +7,4 @@ pub mod Reordering
 pub mod Counting
 pub mod Outer
 pub mod Wholes
+pub mod Sameness

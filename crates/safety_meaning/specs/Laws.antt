@@ -15,7 +15,7 @@ use Rattle.program_meaning.specs.Count.{ExceedsLimit}
 use Rattle.program_meaning.specs.Outside.{Cause, IsFirstOutside, IsWithinLimits}
 use Rattle.program_meaning.specs.Canonical.{IsVariable}
 use Rattle.program_meaning.specs.Models.{IsObjective}
-use Rattle.safety_meaning.specs.Ordered.{IsOrderedBody, IsOrderedCondition}
+use Rattle.safety_meaning.specs.Ordered.{IsOrderedBody, IsOrderedCondition, IsOrderedRule}
 use Rattle.safety_meaning.specs.Reordered.{IsReordered}
 
 -- the program that statements stand for is that of the statements rewritten, with their orders
@@ -78,3 +78,7 @@ abbrev pub LimitsLaw : Type 0
 LimitsLaw =
     (rules others : List ReadRule) → AllZip IsReordered rules others → (ends : Ends) (limit : ℕ)
     → (IsWithinLimits rules ends limit → IsWithinLimits others ends limit) × (IsWithinLimits others ends limit → IsWithinLimits rules ends limit)
+
+-- a rule with its body and its conditions in order is one that differs in their order alone
+abbrev pub OrderedLaw : Type 0
+OrderedLaw = (rule ordered : ReadRule) → IsOrderedRule rule ordered → IsReordered rule ordered

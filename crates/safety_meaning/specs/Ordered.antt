@@ -1,8 +1,8 @@
 -- Bodies in an order in which they bind. There is no order of `q(V,U+1), U = V+1` in which each variable is bound where its literal is
 -- reached: so an atom may come early, but only where no literal that is left is ready.
 use Rattle.std.specs.Prelude.{◌≡◌, ◌⊎◌, ℕ, true, false, List, [], ◌∷◌, ◌++◌, map}
-use Rattle.std.specs.List.{AllByRecursion, flat_map}
-use Rattle.program_meaning.specs.Read.{PlainLiteral, PlainAtom, PlainCompare, ReadLiteral, ReadPlain, ReadTold, ReadRule, plains}
+use Rattle.std.specs.List.{AllByRecursion, AllZip, flat_map}
+use Rattle.program_meaning.specs.Read.{PlainLiteral, PlainAtom, PlainCompare, ReadElement, ReadTheory, ReadLiteral, ReadPlain, ReadTold, ReadChoice, ReadHead, ReadNothing, ReadAtom, ReadDuty, ReadChoose, ReadRule, plains}
 use Rattle.program_meaning.specs.Variables.{is_global}
 use Rattle.program_meaning.specs.Safety.{Binds, IsReady}
 
@@ -48,3 +48,39 @@ pub record IsOrderedBody (body ordered : List ReadLiteral) : Type 0 where
 -- a condition in order, where the rule's global variables are bound before
 abbrev pub IsOrderedCondition : ReadRule → List PlainLiteral → List PlainLiteral → Type 0
 IsOrderedCondition rule condition ordered = AreOrdered (λ n. is_global rule n ≡ true) condition ordered
+
+pub record IsOrderedElement (rule : ReadRule) (one ordered : ReadElement) : Type 0 where
+  pub first : one.first ≡ ordered.first
+  pub duration : one.duration ≡ ordered.duration
+  pub rest : one.rest ≡ ordered.rest
+  pub condition : IsOrderedCondition rule one.condition ordered.condition
+
+pub record IsOrderedTheory (rule : ReadRule) (one ordered : ReadTheory) : Type 0 where
+  pub name : one.name ≡ ordered.name
+  pub elements : AllZip (IsOrderedElement rule) one.elements ordered.elements
+  pub guard : one.guard ≡ ordered.guard
+
+abbrev pub IsOrderedTold : ReadRule → ReadLiteral → ReadLiteral → Type 0
+IsOrderedTold rule (ReadTold one sign) (ReadTold ordered facing) = IsOrderedTheory rule one ordered × (sign ≡ facing)
+IsOrderedTold rule one ordered = ⊥
+
+pub record IsOrderedChoice (rule : ReadRule) (one ordered : ReadChoice) : Type 0 where
+  pub atom : one.atom ≡ ordered.atom
+  pub condition : IsOrderedCondition rule one.condition ordered.condition
+
+abbrev pub IsOrderedHead : ReadRule → ReadHead → ReadHead → Type 0
+IsOrderedHead rule ReadNothing ReadNothing = Unit {0}
+IsOrderedHead rule (ReadAtom one) (ReadAtom ordered) = one ≡ ordered
+IsOrderedHead rule (ReadDuty one) (ReadDuty ordered) = IsOrderedTheory rule one ordered
+IsOrderedHead rule (ReadChoose left elements right) (ReadChoose low others high) = (left ≡ low) × AllZip (IsOrderedChoice rule) elements others × (right ≡ high)
+IsOrderedHead rule one ordered = ⊥
+
+-- a rule with its body and each condition in order
+pub record IsOrderedRule (rule ordered : ReadRule) : Type 0 where
+  pub order : rule.order ≡ ordered.order
+  pub head : IsOrderedHead rule rule.head ordered.head
+  pub plain : List PlainLiteral
+  pub told : List ReadLiteral
+  pub in_order : AreOrdered (λ n. ⊥) (plains rule.body) plain
+  pub each : AllZip (IsOrderedTold rule) (flat_map told_of rule.body) told
+  pub whole : ordered.body ≡ map (λ literal. ReadPlain literal) plain ++ told

@@ -1,5 +1,5 @@
 // What holds of programs of texts. Each function's contract is the law, and its body is empty.
-ghost use Rattle.safety_meaning.specs.Laws.{ReadLaw, OneFailureLaw, FineLaw, OneBodyLaw, OneConditionLaw, PossibleLaw, RelevantLaw, CountLaw, OutsideLaw, VariableLaw, ObjectiveLaw, LimitsLaw};
+ghost use Rattle.safety_meaning.specs.Laws.{ReadLaw, OneFailureLaw, FineLaw, OneBodyLaw, OneConditionLaw, PossibleLaw, RelevantLaw, CountLaw, OutsideLaw, VariableLaw, ObjectiveLaw, LimitsLaw, OrderedLaw};
 
 /// The program that statements stand for is that of the statements rewritten, with the orders that go with them.
 pub fn text_programs()
@@ -12,10 +12,12 @@ pub fn one_failure()
     ensures none { FineLaw }
 {}
 
-/// A body has one order at most (`body`), and so has a condition (`condition`).
+/// A body has one order at most (`body`), and so has a condition (`condition`). A rule with its body and its
+/// conditions in order differs in their order alone (`same`).
 pub fn one_order()
     ensures body { OneBodyLaw }
     ensures condition { OneConditionLaw }
+    ensures same { OrderedLaw }
 {}
 
 /// Rules in another order of their bodies and conditions have the same possible atoms (`possible`), the same
