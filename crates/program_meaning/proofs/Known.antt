@@ -10,13 +10,13 @@ use Rattle.syntax_tree.specs.Outcome.{Outcome, IsSymbol, IsOver, IsUndefined}
 use Rattle.syntax_tree.specs.Value.{value_of}
 use Rattle.ground_model.specs.Members.{IsMember, IsListOf}
 use Rattle.ground_model.specs.Rule.{LinearOf, PlaceOf, RelationOf, LitOf, AtomLit, ItemOf, HeadOf, RuleOf}
-use Rattle.ground_model.proofs.MemberLemmas.{property_from_members}
+use Rattle.ground_model.proofs.MemberLemmas.{property_member, property_from_members}
 use Rattle.program_meaning.specs.Read.{PlainLiteral, PlainAtom, PlainCompare, ReadTheory, ReadLiteral, ReadPlain, ReadTold, ReadHead, ReadNothing, ReadAtom, ReadDuty, ReadChoose, ReadRule, plains}
 use Rattle.program_meaning.specs.Substitution.{Key}
 use Rattle.program_meaning.specs.Collected.{variable_form}
 use Rattle.program_meaning.specs.Instance.{bound_in, bound_in_choice, PositiveHas, CanGive, IsPossible, IsRelevantOf}
 use Rattle.program_meaning.specs.Tuples.{told_in, duty_in, theories, OccursInGuard}
-use Rattle.program_meaning.specs.Ground.{is_relation, atom_as, plain_as, TuplesAs, GuardAs, RelationAs, DomainAs, DutyAs, BodyAs, ItemAs, HeadAs, IsRuleOfProgram}
+use Rattle.program_meaning.specs.Ground.{is_relation, atom_as, plain_as, TuplesAs, GuardAs, RelationAs, DomainAs, DutyAs, AtomsAs, ToldAs, BodyAs, ItemAs, HeadAs, IsRuleOfProgram}
 use Rattle.program_meaning.specs.Canonical.{IsVariable}
 use Rattle.program_meaning.proofs.Lists.{append_left, append_right, flat_to, all_append, zip_all, slice_member}
 use Rattle.program_meaning.proofs.Possible.{possible_from}
@@ -137,17 +137,26 @@ module _ (rules : List ReadRule) (atoms variables : List Symbol) (possible : IsL
     plains_known bound (literal ∷ literals) p =
         all_append (LitKnown atoms variables) (plain_as bound literal) (flat_map (plain_as bound) literals) (plain_known bound literal p.0) (plains_known bound literals p.1)
 
-    body_known : (literals : List ReadLiteral) → ((literal : ReadLiteral) → IsMember literals literal → IsMember rule.body literal)
-        → AllByRecursion (PositiveHas P (bound_in rule key.values)) (plains literals)
-        → (lits : List (LitOf Symbol Symbol)) → BodyAs P rule key.values literals lits → AllByRecursion (LitKnown atoms variables) lits
-    body_known [] sub p lits a = subst (AllByRecursion (LitKnown atoms variables)) (sym a) tt
-    body_known (ReadPlain literal ∷ literals) sub p lits a =
-        subst (AllByRecursion (LitKnown atoms variables)) (sym a.1)
-        (all_append (LitKnown atoms variables) (plain_as (bound_in rule key.values) literal) a.0 (plain_known (bound_in rule key.values) literal p.0)
-        (body_known literals (λ l m. sub l (inr m)) p.1 a.0 a.2))
-    body_known (ReadTold theory sign ∷ literals) sub p lits a =
+    atoms_known : (bound : List Outcome) (literals : List PlainLiteral) → AllByRecursion (PositiveHas P bound) literals
+        → (lits : List (LitOf Symbol Symbol)) → AtomsAs bound literals lits → AllByRecursion (LitKnown atoms variables) lits
+    atoms_known bound literals p lits a =
+        property_from_members (LitKnown atoms variables) lits
+        (λ lit m. property_member (LitKnown atoms variables) (flat_map (plain_as bound) literals) lit (plains_known bound literals p) ((a.all lit).0 m))
+
+    told_known : (literals : List ReadLiteral) → ((literal : ReadLiteral) → IsMember literals literal → IsMember rule.body literal)
+        → (lits : List (LitOf Symbol Symbol)) → ToldAs P rule key.values literals lits → AllByRecursion (LitKnown atoms variables) lits
+    told_known [] sub lits a = subst (AllByRecursion (LitKnown atoms variables)) (sym a) tt
+    told_known (ReadPlain literal ∷ literals) sub lits a = told_known literals (λ l m. sub l (inr m)) lits a
+    told_known (ReadTold theory sign ∷ literals) sub lits a =
         subst (AllByRecursion (LitKnown atoms variables)) (sym a.2)
-        (relation_known theory (told_member rule theory sign (sub (ReadTold theory sign) (inl refl))) a.0 a.3, body_known literals (λ l m. sub l (inr m)) p a.1 a.4)
+        (relation_known theory (told_member rule theory sign (sub (ReadTold theory sign) (inl refl))) a.0 a.3, told_known literals (λ l m. sub l (inr m)) a.1 a.4)
+
+    body_known : AllByRecursion (PositiveHas P (bound_in rule key.values)) (plains rule.body)
+        → (lits : List (LitOf Symbol Symbol)) → BodyAs P rule key.values rule.body lits → AllByRecursion (LitKnown atoms variables) lits
+    body_known p lits a =
+        subst (AllByRecursion (LitKnown atoms variables)) (sym a.whole)
+        (all_append (LitKnown atoms variables) a.atoms a.told (atoms_known (bound_in rule key.values) (plains rule.body) p a.atoms a.are_atoms)
+        (told_known rule.body (λ literal m. m) a.told a.are_told))
 
     -- ---- heads
 
@@ -165,13 +174,12 @@ module _ (rules : List ReadRule) (atoms variables : List Symbol) (possible : IsL
           atom = (possible y.atom).1 (possible_from rules key rule relevant y.atom
               (subst (λ z. CanGive P rule key.values z y.atom) (sym e)
               (i.0, slice_member elements part.place i.0 i.1.place, part.values, i.1.stands, i.2, i.1.positive)));
-          condition = subst (AllByRecursion (LitKnown atoms variables)) (sym i.3)
-              (plains_known (bound_in_choice rule key.values i.0 part.values) i.0.condition i.1.positive);
+          condition = atoms_known (bound_in_choice rule key.values i.0 part.values) i.0.condition i.1.positive y.condition i.3;
         }
 
   pub rule_known : (r : RuleOf Symbol Symbol) → IsRuleOfProgram rules r → RuleKnown atoms variables r
   rule_known r i =
       let a = i.1 in record {
-        body = body_known i.0 a.0 a.1 a.0.body (λ literal m. m) a.1.positive r.body a.2;
+        body = body_known i.0 a.0 a.1 a.1.positive r.body a.2;
         head = head_known i.0 a.0 a.1 a.0.head refl r.head a.3;
       }

@@ -10,18 +10,19 @@ use Rattle.syntax_tree.specs.declared.literal.TheoryName.TheVariants as name
 use Rattle.syntax_tree.specs.Outcome.{Outcome, IsSymbol}
 use Rattle.syntax_tree.specs.Value.{value_of}
 use Rattle.ground_model.specs.declared.rule.Bound.{Bound}
+use Rattle.ground_model.specs.Members.{IsMember}
 use Rattle.ground_model.specs.Rule.{LinearOf, PlaceOf, RelationOf, RelationHead, DomainHead, DistinctHead, DisjointHead, LitOf, RelationLit, ItemOf, HeadOf, GivesHead, HoldsHead, ChoosesHead, RuleOf}
 use Rattle.ground_model.proofs.Bools.{same_test}
-use Rattle.program_meaning.specs.Read.{ReadTheory, ReadLiteral, ReadPlain, ReadTold, ReadChoice, ReadHead, ReadNothing, ReadAtom, ReadDuty, ReadChoose, ReadRule}
+use Rattle.program_meaning.specs.Read.{PlainLiteral, ReadTheory, ReadLiteral, ReadPlain, ReadTold, ReadChoice, ReadHead, ReadNothing, ReadAtom, ReadDuty, ReadChoose, ReadRule, plains}
 use Rattle.program_meaning.specs.Substitution.{Value, Key, key_cmp}
 use Rattle.program_meaning.specs.Collected.{Collected, collected, variable_form}
 use Rattle.program_meaning.specs.Theory.{HasForm, place_cmp}
 use Rattle.program_meaning.specs.Instance.{bound_in, bound_in_choice, IsPossible, IsRelevantChoice}
 use Rattle.program_meaning.specs.Tuples.{IsTuple}
-use Rattle.program_meaning.specs.Ground.{plain_as, TuplesAs, GuardAs, RelationAs, DomainAs, DutyAs, BodyAs, ItemAs, turned, BoundAs, ChoiceAs, HeadAs, IsInstanceAs, GivesRule}
+use Rattle.program_meaning.specs.Ground.{plain_as, TuplesAs, GuardAs, RelationAs, DomainAs, DutyAs, lit_cmp, AtomsAs, ToldAs, BodyAs, ItemAs, turned, BoundAs, ChoiceAs, HeadAs, IsInstanceAs, GivesRule}
 use Rattle.program_meaning.specs.Canonical.{rule_numbered, place_numbered, IsVariable, IsDirected, shows_atom, IsShownFlag, InstancesAs, PlacesAs}
 use Rattle.program_meaning.specs.Laws.{OneLaw}
-use Rattle.program_meaning.proofs.Orders.{symbols_turn, keys_turn, places_turn}
+use Rattle.program_meaning.proofs.Orders.{symbols_turn, keys_turn, places_turn, lits_turn}
 use Rattle.program_meaning.proofs.Lists.{ordered_same, zip_one, some_one}
 use Rattle.program_meaning.proofs.Parted.{parted_same}
 
@@ -83,24 +84,33 @@ duty_one P rule values theory name.Unknown h k a c = absurd a
 
 -- ---- bodies and heads
 
+atoms_one : (bound : List Outcome) (literals : List PlainLiteral) (xs ys : List (LitOf Symbol Symbol)) → AtomsAs bound literals xs → AtomsAs bound literals ys → xs ≡ ys
+atoms_one bound literals xs ys a c = ordered_same lit_cmp lits_turn (λ lit. IsMember (flat_map (plain_as bound) literals) lit) xs ys a c
+
+told_one : (P : Symbol → Type 0) (rule : ReadRule) (values : List Value) (literals : List ReadLiteral) (xs ys : List (LitOf Symbol Symbol))
+    → ToldAs P rule values literals xs → ToldAs P rule values literals ys → xs ≡ ys
+told_one P rule values [] xs ys a c = a ∙ sym c
+told_one P rule values (ReadPlain literal ∷ literals) xs ys a c = told_one P rule values literals xs ys a c
+told_one P rule values (ReadTold theory sign ∷ literals) xs ys a c =
+    let relation = relation_one P rule values theory a.0 c.0 a.3 c.3 in
+    let rest = told_one P rule values literals a.1 c.1 a.4 c.4 in
+    a.2 ∙ (λ i. RelationLit (relation i) sign ∷ rest i) ∙ sym c.2
+
 body_one : (P : Symbol → Type 0) (rule : ReadRule) (values : List Value) (literals : List ReadLiteral) (xs ys : List (LitOf Symbol Symbol))
     → BodyAs P rule values literals xs → BodyAs P rule values literals ys → xs ≡ ys
-body_one P rule values [] xs ys a c = a ∙ sym c
-body_one P rule values (ReadPlain literal ∷ literals) xs ys a c =
-    a.1 ∙ ap (λ r. plain_as (bound_in rule values) literal ++ r) (body_one P rule values literals a.0 c.0 a.2 c.2) ∙ sym c.1
-body_one P rule values (ReadTold theory sign ∷ literals) xs ys a c =
-    let relation = relation_one P rule values theory a.0 c.0 a.3 c.3 in
-    let rest = body_one P rule values literals a.1 c.1 a.4 c.4 in
-    a.2 ∙ (λ i. RelationLit (relation i) sign ∷ rest i) ∙ sym c.2
+body_one P rule values literals xs ys a c =
+    let atoms = atoms_one (bound_in rule values) (plains literals) a.atoms c.atoms a.are_atoms c.are_atoms in
+    let told = told_one P rule values literals a.told c.told a.are_told c.are_told in
+    a.whole ∙ (λ i. atoms i ++ told i) ∙ sym c.whole
 
 item_one : (P : Symbol → Type 0) (rule : ReadRule) (values : List Value) (elements : List ReadChoice) (key : Key) (x y : ItemOf Symbol Symbol)
     → ItemAs P rule values elements key x → ItemAs P rule values elements key y → x ≡ y
 item_one P rule values elements key x y a c =
     let e : a.0 ≡ c.0 = some_one (slice_get elements key.place) a.0 c.0 a.1.place c.1.place in
     let v = subst (λ d. value_of (bound_in_choice rule values d key.values) d.atom ≡ IsSymbol x.atom) e a.2 in
-    let k = subst (λ d. x.condition ≡ flat_map (plain_as (bound_in_choice rule values d key.values)) d.condition) e a.3 in
+    let k = subst (λ d. AtomsAs (bound_in_choice rule values d key.values) d.condition x.condition) e a.3 in
     let atoms : x.atom ≡ y.atom = symbol_one (value_of (bound_in_choice rule values c.0 key.values) c.0.atom) x.atom y.atom v c.2 in
-    let conditions : x.condition ≡ y.condition = k ∙ sym c.3 in
+    let conditions : x.condition ≡ y.condition = atoms_one (bound_in_choice rule values c.0 key.values) c.0.condition x.condition y.condition k c.3 in
     (λ i. record { atom = atoms i; condition = conditions i })
 
 bound_one : (facing : Rel → Rel) (bound : List Outcome) (guard : Option Guard) (x y : Option Bound) → BoundAs facing bound guard x → BoundAs facing bound guard y → x ≡ y

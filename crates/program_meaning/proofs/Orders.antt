@@ -1,5 +1,5 @@
--- The orders of instances and tuples go one way.
-use Rattle.std.proofs.Common.{◌≡◌, [], ◌∷◌, refl, ◌∙◌}
+-- The orders of instances, tuples and literals go one way.
+use Rattle.std.proofs.Common.{◌≡◌, true, false, [], ◌∷◌, refl, ◌∙◌}
 use Rattle.std.specs.Ordering.{nat_cmp, int_cmp, ordering_then, ordering_reverse}
 use Rattle.std.specs.declared.cmp.Ordering.{Ordering}
 use Rattle.std.specs.declared.cmp.Ordering.TheVariants.{Less, Equal, Greater}
@@ -8,8 +8,10 @@ use Rattle.std.specs.Cmp.Lexicographic.{slice_cmp}
 use Rattle.std.proofs.lemmas.Cmp.{nat_cmp_total, int_cmp_total}
 use Rattle.symbols.specs.Order.{symbol_cmp}
 use Rattle.symbols.proofs.OrderLemmas.{symbol_cmp_total}
+use Rattle.ground_model.specs.Rule.{AtomLit, RelationLit}
 use Rattle.program_meaning.specs.Substitution.{SymbolValue, OverValue, value_cmp, key_cmp}
 use Rattle.program_meaning.specs.Theory.{pair_cmp, place_cmp}
+use Rattle.program_meaning.specs.Ground.{sign_cmp, lit_cmp}
 
 -- the order read from the other side
 abbrev pub Turns : {X : Type 0} → (X → X → Ordering) → Type 0
@@ -49,6 +51,19 @@ places_turn a b =
     (then_turns (int_cmp a.linear.constant b.linear.constant) (int_cmp b.linear.constant a.linear.constant) _ _ (int_cmp_total.antisymm a.linear.constant b.linear.constant)
     (then_turns (int_cmp a.duration b.duration) (int_cmp b.duration a.duration) (slice_cmp symbol_cmp a.rest b.rest) (slice_cmp symbol_cmp b.rest a.rest)
     (int_cmp_total.antisymm a.duration b.duration) (lists_turn symbol_cmp symbols_turn a.rest b.rest)))
+
+signs_turn : Turns sign_cmp
+signs_turn true true = refl
+signs_turn true false = refl
+signs_turn false true = refl
+signs_turn false false = refl
+
+pub lits_turn : Turns lit_cmp
+lits_turn (AtomLit a sign) (AtomLit b facing) =
+    then_turns (symbol_cmp a b) (symbol_cmp b a) (sign_cmp sign facing) (sign_cmp facing sign) (symbols_turn a b) (signs_turn sign facing)
+lits_turn (AtomLit a sign) (RelationLit relation facing) = refl
+lits_turn (RelationLit relation sign) (AtomLit b facing) = refl
+lits_turn (RelationLit relation sign) (RelationLit other facing) = refl
 
 -- two things are not each less than the other
 pub one_way : {X : Type 0} (order : X → X → Ordering) → Turns order → (x y : X) → order x y ≡ Less → order y x ≡ Less → ⊥

@@ -1,6 +1,6 @@
 -- The canonical ground program of q(X) :- p(X), not r(X). p(1..2). #show q/1.
 use Rattle.std.proofs.Common.{◌≡◌, ◌⊎◌, inl, inr, ℕ, zero, suc, true, false, ◌&&◌, pos, List, [], ◌∷◌, ◌++◌, map, length, Some, slice_get, refl, sym, ◌∙◌, ap, subst, true≢false, codes}
-use Rattle.std.specs.List.{list_all}
+use Rattle.std.specs.List.{list_all, flat_map}
 use Rattle.symbols.specs.declared.rel.Rel.TheVariants as r
 use Rattle.symbols.specs.Symbol.{Symbol, Number, Function, arguments}
 use Rattle.syntax_tree.specs.declared.term.Term.{Term}
@@ -17,7 +17,7 @@ use Rattle.program_meaning.specs.Comparison.{IsSpan, contained, comparison, may_
 use Rattle.program_meaning.specs.Theory.{is_defined}
 use Rattle.program_meaning.specs.Instance.{bound_in, literal_stands, IsInstance, PossibleAt, IsPossible, IsRelevantOf}
 use Rattle.program_meaning.specs.Tuples.{theories}
-use Rattle.program_meaning.specs.Ground.{atom_as, GivesRule, IsInstanceAs}
+use Rattle.program_meaning.specs.Ground.{atom_as, plain_as, GivesRule, IsInstanceAs}
 use Rattle.program_meaning.specs.Canonical.{is_of_predicate, GroundView, IsCanonical}
 use Rattle.program_meaning.specs.Search.{values_in}
 use Rattle.program_meaning.proofs.Binding.{same_worth}
@@ -240,22 +240,41 @@ q_ground k = record { body = AtomLit (p_at k) true ∷ AtomLit (r_at k) false �
 p_ground : ℕ → RuleOf Symbol Symbol
 p_ground k = record { body = []; head = GivesHead (p_at k) }
 
+q_literals : (k : ℕ) → flat_map (plain_as (bound_in q_rule (number k ∷ []))) (plains q_rule.body) ≡ AtomLit (p_at k) true ∷ AtomLit (r_at k) false ∷ []
+q_literals k = λ i. atom_as (q_value (codes "p") k i) true ++ (atom_as (q_value (codes "r") k i) false ++ [])
+
 q_instance : (k : ℕ) → IsInstance p_rule (number k ∷ []) → IsInstanceAs rules (key 0 (number k ∷ [])) (q_ground k)
 unfolding q_ground
 q_instance k stands = (
   q_rule,
   q_relevant k stands,
-  (
-    AtomLit (r_at k) false ∷ [],
-    sym (ap (λ o. atom_as o true ++ AtomLit (r_at k) false ∷ []) (q_value (codes "p") k)),
-    ([], sym (ap (λ o. atom_as o false ++ []) (q_value (codes "r") k)), refl),
-  ),
+  record {
+    atoms = AtomLit (p_at k) true ∷ AtomLit (r_at k) false ∷ [];
+    told = [];
+    are_atoms = record {
+      ascend = ((refl, tt), (tt, tt));
+      all = λ lit. (λ m. subst (λ lits. IsMember lits lit) (sym (q_literals k)) m, λ m. subst (λ lits. IsMember lits lit) (q_literals k) m);
+    };
+    are_told = refl;
+    whole = refl;
+  },
   (q_at k, q_value (codes "q") k, refl),
 )
 
 p_instance : (k : ℕ) → IsInstance p_rule (number k ∷ []) → IsInstanceAs rules (key 1 (number k ∷ [])) (p_ground k)
 unfolding p_ground
-p_instance k stands = (p_rule, p_relevant k stands, ([], refl, refl), (p_at k, p_value k, refl))
+p_instance k stands = (
+  p_rule,
+  p_relevant k stands,
+  record {
+    atoms = [];
+    told = [];
+    are_atoms = record { ascend = tt; all = λ lit. (λ m. m, λ m. m) };
+    are_told = refl;
+    whole = refl;
+  },
+  (p_at k, p_value k, refl),
+)
 
 abbrev instances : List (Key × RuleOf Symbol Symbol)
 instances =

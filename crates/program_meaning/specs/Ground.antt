@@ -1,9 +1,13 @@
 -- A relevant instance as a ground rule over symbols.
 use Rattle.std.specs.Prelude.{◌≡◌, ◌↔◌, Bool, true, false, ℤ, List, [], ◌∷◌, ◌++◌, Option, None, Some}
 use Rattle.std.specs.List.{AllZip, flat_map}
+use Rattle.std.specs.Ordering.{ordering_then}
+use Rattle.std.specs.declared.cmp.Ordering.{Ordering}
+use Rattle.std.specs.declared.cmp.Ordering.TheVariants as order
 use Rattle.symbols.specs.declared.rel.Rel.{Rel}
 use Rattle.symbols.specs.declared.rel.Rel.TheVariants.{Equal, NotEqual, Less, LessEqual, Greater, GreaterEqual}
 use Rattle.symbols.specs.Symbol.{Symbol, Number}
+use Rattle.symbols.specs.Order.{symbol_cmp}
 use Rattle.syntax_tree.specs.declared.literal.Guard.{Guard}
 use Rattle.syntax_tree.specs.declared.literal.TheoryName.{TheoryName}
 use Rattle.syntax_tree.specs.declared.literal.TheoryName.TheVariants as name
@@ -11,8 +15,9 @@ use Rattle.syntax_tree.specs.Outcome.{Outcome, IsSymbol, IsOver, IsUndefined}
 use Rattle.syntax_tree.specs.Value.{value_of}
 use Rattle.ground_model.specs.declared.rule.Bound.{Bound}
 use Rattle.ground_model.specs.Intervals.{are_parted, lies_in}
+use Rattle.ground_model.specs.Members.{IsMember}
 use Rattle.ground_model.specs.Rule.{LinearOf, PlaceOf, RelationOf, RelationHead, DomainHead, DistinctHead, DisjointHead, LitOf, AtomLit, RelationLit, ItemOf, HeadOf, NothingHead, GivesHead, HoldsHead, ChoosesHead, RuleOf}
-use Rattle.program_meaning.specs.Read.{PlainLiteral, PlainAtom, PlainCompare, ReadTheory, ReadLiteral, ReadPlain, ReadTold, ReadChoice, ReadHead, ReadNothing, ReadAtom, ReadDuty, ReadChoose, ReadRule}
+use Rattle.program_meaning.specs.Read.{PlainLiteral, PlainAtom, PlainCompare, ReadTheory, ReadLiteral, ReadPlain, ReadTold, ReadChoice, ReadHead, ReadNothing, ReadAtom, ReadDuty, ReadChoose, ReadRule, plains}
 use Rattle.program_meaning.specs.Ascending.{IsOrderedListOf}
 use Rattle.program_meaning.specs.Substitution.{Value, Key, key_cmp}
 use Rattle.program_meaning.specs.Collected.{collected, variable_form}
@@ -73,21 +78,46 @@ DutyAs P rule values theory other head = ⊥
 
 -- BODIES AND HEADS
 
--- a body: its atoms and its theory atoms in order
-abbrev pub BodyAs : (Symbol → Type 0) → ReadRule → List Value → List ReadLiteral → List (LitOf Symbol Symbol) → Type 0
-BodyAs P rule values [] lits = lits ≡ []
-BodyAs P rule values (ReadPlain literal ∷ literals) lits =
-    (rest : List (LitOf Symbol Symbol)) × (lits ≡ plain_as (bound_in rule values) literal ++ rest) × BodyAs P rule values literals rest
-BodyAs P rule values (ReadTold theory sign ∷ literals) lits =
+-- the true one before the false one
+abbrev pub sign_cmp : Bool → Bool → Ordering
+sign_cmp true true = order.Equal
+sign_cmp true false = order.Less
+sign_cmp false true = order.Greater
+sign_cmp false false = order.Equal
+
+-- atom literals by their atoms, the true one of an atom before the false one
+abbrev pub lit_cmp : LitOf Symbol Symbol → LitOf Symbol Symbol → Ordering
+lit_cmp (AtomLit a sign) (AtomLit b facing) = ordering_then (symbol_cmp a b) (sign_cmp sign facing)
+lit_cmp (AtomLit a sign) (RelationLit relation facing) = order.Less
+lit_cmp (RelationLit relation sign) (AtomLit b facing) = order.Greater
+lit_cmp (RelationLit relation sign) (RelationLit other facing) = order.Equal
+
+-- the different atom literals of literals at values, in order
+abbrev pub AtomsAs : List Outcome → List PlainLiteral → List (LitOf Symbol Symbol) → Type 0
+AtomsAs bound literals lits = IsOrderedListOf lit_cmp (λ lit. IsMember (flat_map (plain_as bound) literals) lit) lits
+
+-- the theory literals of a body, as they stand in the text
+abbrev pub ToldAs : (Symbol → Type 0) → ReadRule → List Value → List ReadLiteral → List (LitOf Symbol Symbol) → Type 0
+ToldAs P rule values [] lits = lits ≡ []
+ToldAs P rule values (ReadPlain literal ∷ literals) lits = ToldAs P rule values literals lits
+ToldAs P rule values (ReadTold theory sign ∷ literals) lits =
     (relation : RelationOf Symbol) × (rest : List (LitOf Symbol Symbol)) × (lits ≡ RelationLit relation sign ∷ rest)
-    × RelationAs P rule values theory relation × BodyAs P rule values literals rest
+    × RelationAs P rule values theory relation × ToldAs P rule values literals rest
+
+-- a body: its different atom literals in order, and then its theory literals; so the order of its atoms and comparisons says nothing
+pub record BodyAs (P : Symbol → Type 0) (rule : ReadRule) (values : List Value) (literals : List ReadLiteral) (lits : List (LitOf Symbol Symbol)) : Type 0 where
+  pub atoms : List (LitOf Symbol Symbol)
+  pub told : List (LitOf Symbol Symbol)
+  pub are_atoms : AtomsAs (bound_in rule values) (plains literals) atoms
+  pub are_told : ToldAs P rule values literals told
+  pub whole : lits ≡ atoms ++ told
 
 -- an instance of a choice's element as an element of a ground choice
 abbrev pub ItemAs : (Symbol → Type 0) → ReadRule → List Value → List ReadChoice → Key → ItemOf Symbol Symbol → Type 0
 ItemAs P rule values elements key item =
     (element : ReadChoice) × IsRelevantChoice P rule values elements key element
     × (value_of (bound_in_choice rule values element key.values) element.atom ≡ IsSymbol item.atom)
-    × (item.condition ≡ flat_map (plain_as (bound_in_choice rule values element key.values)) element.condition)
+    × AtomsAs (bound_in_choice rule values element key.values) element.condition item.condition
 
 -- a relation read from its other side
 abbrev pub turned : Rel → Rel

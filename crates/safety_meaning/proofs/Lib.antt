@@ -8,3 +8,4 @@ pub mod Counting
 pub mod Outer
 pub mod Wholes
 pub mod Sameness
+pub mod Grounds

@@ -26,7 +26,7 @@ use Rattle.safety_meaning.proofs.Truths.{any_same, every_at, every_from, same_ap
 use Rattle.safety_meaning.proofs.Reordering.{bound_same, bound_choice_same, compared_same, theory_turned, rule_turned, possible_law, relevant_of_kept, all_turned}
 use Rattle.safety_meaning.proofs.Counting.{theories_zip, choices_zip, bound_element_same, choice_relevant, element_relevant}
 
-moved : {A B : Type 0} (M : A → B → Type 0) {a c : A} {b d : B} → a ≡ c → b ≡ d → M a b → M c d
+pub moved : {A B : Type 0} (M : A → B → Type 0) {a c : A} {b d : B} → a ≡ c → b ≡ d → M a b → M c d
 moved M {a} {c} {b} {d} e k h = subst (λ x. M x d) e (subst (M a) k h)
 
 pub exceeds_by : {X : Type 0} (P Q : X → Type 0) (limit : ℕ) → ((x : X) → P x → Q x) → Exceeds P limit → Exceeds Q limit
@@ -106,7 +106,7 @@ module _ (P Q : Symbol → Type 0) (f : (a : Symbol) → P a → Q a) (g : (a : 
         },
       )
 
-  range_kept : (theory more : ReadTheory) → IsSameTheory theory more → (range : _) → IsRange P rule values theory range → IsRange Q other values more range
+  pub range_kept : (theory more : ReadTheory) → IsSameTheory theory more → (range : _) → IsRange P rule values theory range → IsRange Q other values more range
   range_kept theory more k range h =
       let e = element_relevant rule other same P Q f g values theory more k h.0 h.1 h.2 in
       let b = bound_element_same rule other same h.1 e.0 e.2 values h.0.values in

@@ -35,7 +35,7 @@ literal_turned (ReadTold one sign) (ReadTold other facing) h = (theory_turned on
 choice_turned : (one other : ReadChoice) → IsSameChoice one other → IsSameChoice other one
 choice_turned one other h = record { atom = sym h.atom; condition = same_turned one.condition other.condition h.condition }
 
-head_turned : (one other : ReadHead) → IsSameHead one other → IsSameHead other one
+pub head_turned : (one other : ReadHead) → IsSameHead one other → IsSameHead other one
 head_turned ReadNothing ReadNothing h = tt
 head_turned (ReadAtom one) (ReadAtom other) h = sym h
 head_turned (ReadDuty one) (ReadDuty other) h = theory_turned one other h

@@ -4,8 +4,8 @@ use Rattle.std.specs.List.{AllZip, flat_map}
 use Rattle.ground_model.specs.Members.{IsMember}
 use Rattle.program_meaning.specs.Read.{PlainLiteral, ReadElement, ReadTheory, ReadLiteral, ReadPlain, ReadTold, ReadChoice, ReadHead, ReadNothing, ReadAtom, ReadDuty, ReadChoose, ReadRule, plains}
 use Rattle.program_meaning.specs.Safety.{Binds, IsReady}
-use Rattle.safety_meaning.specs.Ordered.{IsPositive, TakesFirst, Next, TakesReady, TakesAtom, AreOrdered, told_of, IsOrderedCondition, IsOrderedElement, IsOrderedTheory, IsOrderedTold, IsOrderedChoice, IsOrderedHead, IsOrderedRule}
-use Rattle.safety_meaning.specs.Reordered.{HaveSameMembers, IsSameElement, IsSameTheory, IsSameLiteral, IsSameChoice, IsSameHead, IsReordered}
+use Rattle.safety_meaning.specs.Ordered.{IsPositive, TakesFirst, Next, TakesReady, TakesAtom, AreOrdered, told_of, IsOrderedCondition, IsOrderedElement, IsOrderedTheory, IsOrderedTold, IsOrderedChoice, IsOrderedHead}
+use Rattle.safety_meaning.specs.Reordered.{HaveSameMembers, IsSameElement, IsSameTheory, IsSameLiteral, IsSameChoice, IsSameHead}
 use Rattle.safety_meaning.specs.Laws.{OrderedLaw}
 use Rattle.safety_meaning.proofs.Lists.{member_append, member_left, member_right}
 
@@ -41,7 +41,7 @@ ordered_same : (ordered : List PlainLiteral) (P : ℕ → Type 0) (literals : Li
 ordered_same [] P literals h = record { forth = λ y m. subst (λ ys. IsMember ys y) h m; back = λ y m. absurd m }
 ordered_same (x ∷ rest) P literals h = next_same P literals x h.0 rest h.1 (ordered_same rest (λ n. P n ⊎ Binds P x n) h.0 h.2)
 
-zip_mapped : {A B : Type 0} (R S : A → B → Type 0) (xs : List A) (ys : List B) → ((x : A) (y : B) → R x y → S x y) → AllZip R xs ys → AllZip S xs ys
+pub zip_mapped : {A B : Type 0} (R S : A → B → Type 0) (xs : List A) (ys : List B) → ((x : A) (y : B) → R x y → S x y) → AllZip R xs ys → AllZip S xs ys
 zip_mapped R S [] [] f h = tt
 zip_mapped R S [] (y ∷ ys) f h = absurd h
 zip_mapped R S (x ∷ xs) [] f h = absurd h

@@ -30,11 +30,11 @@ duty_found (ReadDuty one) (ReadDuty other) theory h e = let same : one ≡ theor
 duty_found (ReadChoose left elements right) (ReadChoose low others high) theory h e = absurd cc
 duty_found one other theory h e = absurd h
 
-ordered_by : {X : Type 0} (order : X → X → Ordering) (P Q : X → Type 0) (xs : List X) → ((x : X) → P x → Q x) → ((x : X) → Q x → P x) → IsOrderedListOf order P xs → IsOrderedListOf order Q xs
+pub ordered_by : {X : Type 0} (order : X → X → Ordering) (P Q : X → Type 0) (xs : List X) → ((x : X) → P x → Q x) → ((x : X) → Q x → P x) → IsOrderedListOf order P xs → IsOrderedListOf order Q xs
 ordered_by order P Q xs f g h = record { ascend = h.ascend; all = λ x. ((λ m. f x ((h.all x).0 m)), (λ q. (h.all x).1 (g x q))) }
 
 module _ (rules others : List ReadRule) (zip : AllZip IsReordered rules others) where
-  is_variable_kept : (x : Symbol) → IsVariable rules x → IsVariable others x
+  pub is_variable_kept : (x : Symbol) → IsVariable rules x → IsVariable others x
   is_variable_kept x h =
       let r = relevant_of_kept rules others zip h.0 h.1 h.3.relevant in
       let t = zip_member IsSameTheory (theories h.1) (theories r.0) h.2 (theories_zip h.1 r.0 r.2) h.3.member in (
@@ -50,7 +50,7 @@ module _ (rules others : List ReadRule) (zip : AllZip IsReordered rules others) 
         },
       )
 
-  directed_kept : (directive : TheoryName) (place : PlaceOf Symbol) → IsDirected rules directive place → IsDirected others directive place
+  pub directed_kept : (directive : TheoryName) (place : PlaceOf Symbol) → IsDirected rules directive place → IsDirected others directive place
   directed_kept directive place h =
       let r = relevant_of_kept rules others zip h.0 h.1 h.3.relevant in
       let t = duty_found h.1.head r.0.head h.2 r.2.head h.3.head in (
@@ -70,7 +70,7 @@ module _ (rules others : List ReadRule) (zip : AllZip IsReordered rules others) 
   directed_variable_kept directive x h = (h.0, directed_kept directive h.0 h.1, h.2)
 
 module _ (rules others : List ReadRule) (zip : AllZip IsReordered rules others) where
-  places_kept : (directive : TheoryName) (places : List (PlaceOf Symbol)) → IsOrderedListOf place_cmp (IsDirected rules directive) places → IsOrderedListOf place_cmp (IsDirected others directive) places
+  pub places_kept : (directive : TheoryName) (places : List (PlaceOf Symbol)) → IsOrderedListOf place_cmp (IsDirected rules directive) places → IsOrderedListOf place_cmp (IsDirected others directive) places
   places_kept directive places h =
       ordered_by place_cmp (IsDirected rules directive) (IsDirected others directive) places (directed_kept rules others zip directive)
       (directed_kept others rules (all_turned rules others zip) directive) h

@@ -6,14 +6,14 @@ use Rattle.symbols.specs.declared.ends.Ends.{Ends}
 use Rattle.syntax_tree.specs.declared.statement.Statement.{Statement}
 use Rattle.rewriting.specs.Rewritten.{rewritten_statement}
 use Rattle.rewriting.specs.Order.{order_of_statement}
-use Rattle.program_meaning.specs.Read.{PlainLiteral, ReadLiteral, ReadRule, program_read}
+use Rattle.program_meaning.specs.Read.{PlainLiteral, ReadLiteral, ReadRule, ReadShow, program_read}
 use Rattle.safety_meaning.specs.Program.{program_of}
 use Rattle.safety_meaning.specs.Failures.{Failure, IsFirstFailure, AreFine}
 use Rattle.program_meaning.specs.Substitution.{Key}
 use Rattle.program_meaning.specs.Instance.{IsPossible, IsRelevant}
 use Rattle.program_meaning.specs.Count.{ExceedsLimit}
 use Rattle.program_meaning.specs.Outside.{Cause, IsFirstOutside, IsWithinLimits}
-use Rattle.program_meaning.specs.Canonical.{IsVariable}
+use Rattle.program_meaning.specs.Canonical.{IsVariable, GroundView, IsCanonical}
 use Rattle.program_meaning.specs.Models.{IsObjective}
 use Rattle.safety_meaning.specs.Ordered.{IsOrderedBody, IsOrderedCondition, IsOrderedRule}
 use Rattle.safety_meaning.specs.Reordered.{IsReordered}
@@ -82,3 +82,11 @@ LimitsLaw =
 -- a rule with its body and its conditions in order is one that differs in their order alone
 abbrev pub OrderedLaw : Type 0
 OrderedLaw = (rule ordered : ReadRule) → IsOrderedRule rule ordered → IsReordered rule ordered
+
+-- rules in another order of their bodies and conditions have the same canonical ground program: so a text has one, whatever order its
+-- bodies are put in
+abbrev pub GroundsLaw : Type 0
+GroundsLaw =
+    (rules others : List ReadRule) → AllZip IsReordered rules others → (shows : List ReadShow) (view : GroundView)
+    → (IsCanonical (record { rules = rules; shows = shows }) view → IsCanonical (record { rules = others; shows = shows }) view)
+    × (IsCanonical (record { rules = others; shows = shows }) view → IsCanonical (record { rules = rules; shows = shows }) view)

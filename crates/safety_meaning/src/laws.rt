@@ -1,5 +1,5 @@
 // What holds of programs of texts. Each function's contract is the law, and its body is empty.
-ghost use Rattle.safety_meaning.specs.Laws.{ReadLaw, OneFailureLaw, FineLaw, OneBodyLaw, OneConditionLaw, PossibleLaw, RelevantLaw, CountLaw, OutsideLaw, VariableLaw, ObjectiveLaw, LimitsLaw, OrderedLaw};
+ghost use Rattle.safety_meaning.specs.Laws.{ReadLaw, OneFailureLaw, FineLaw, OneBodyLaw, OneConditionLaw, PossibleLaw, RelevantLaw, CountLaw, OutsideLaw, VariableLaw, ObjectiveLaw, LimitsLaw, OrderedLaw, GroundsLaw};
 
 /// The program that statements stand for is that of the statements rewritten, with the orders that go with them.
 pub fn text_programs()
@@ -36,4 +36,9 @@ pub fn reordered_programs()
     ensures variables { VariableLaw }
     ensures objective { ObjectiveLaw }
     ensures limits { LimitsLaw }
+{}
+
+/// Rules in another order of their bodies and conditions have the same canonical ground program.
+pub fn reordered_grounds()
+    ensures { GroundsLaw }
 {}

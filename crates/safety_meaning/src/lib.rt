@@ -7,4 +7,6 @@
 
 mod laws;
 
-pub use laws::{one_failure, one_order, reordered_programs, reordered_rules, text_programs};
+pub use laws::{
+    one_failure, one_order, reordered_grounds, reordered_programs, reordered_rules, text_programs,
+};
