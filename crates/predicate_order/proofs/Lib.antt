@@ -1,0 +1,5 @@
+pub mod Numbers
+pub mod Turns
+pub mod Finding
+pub mod Meanings
+pub mod Programs

@@ -1,0 +1,5 @@
+pub mod Lists
+pub mod Answering
+pub mod Twins
+pub mod Verdicts
+pub mod Searching
