@@ -1,0 +1,3 @@
+pub mod StayLemmas
+pub mod MatchLemmas
+pub mod FlagLemmas
