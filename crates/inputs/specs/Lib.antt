@@ -1,0 +1,4 @@
+pub mod Sizes
+pub mod Texts
+pub mod Stops
+pub mod inner
