@@ -1,0 +1,5 @@
+pub mod QuietLaws
+pub mod LevelLaws
+pub mod EventLaws
+pub mod LineLaws
+pub mod HoldLaws
