@@ -1,0 +1,5 @@
+pub mod Pieces
+pub mod Terms
+pub mod Literals
+pub mod Rules
+pub mod Listing
