@@ -1,0 +1,4 @@
+pub mod KeyLemmas
+pub mod Counts
+pub mod InstanceCounts
+pub mod ProgramCounts
