@@ -1,0 +1,4 @@
+pub mod OneGrounding
+pub mod OneLines
+pub mod OneLoad
+pub mod SameModels

@@ -1,0 +1,4 @@
+pub mod Grounding
+pub mod Lines
+pub mod Load
+pub mod Laws
