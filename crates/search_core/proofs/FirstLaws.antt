@@ -10,7 +10,6 @@ use Rattle.trail.specs.declared.shape.Shape.{Shape}
 use Rattle.ground_model.specs.declared.program.GroundProgram.{GroundProgram}
 use Rattle.linear_normal.specs.Numbering.{numbering}
 use Rattle.completion.specs.Inputs.{input_nogoods}
-use Rattle.completion.specs.Tight.{IsTight}
 use Rattle.trail.specs.Assignment.{Assignment}
 use Rattle.nogood_store.specs.Holding.{Holding, numbered_from}
 use Rattle.derivation_meaning.specs.State.{start, is_empty, holds_empty}
@@ -24,7 +23,7 @@ use Rattle.learning.specs.Known.{Known, state_of, first_known}
 use Rattle.learning.proofs.StateLaws.{start_law}
 use Rattle.propagators.specs.Work.{DoTheWork}
 use Rattle.search_core.specs.inner.Invariant.{IsSet, IsSearch}
-use Rattle.search_core.proofs.HoldLaws.{first_below, first_held, first_named, closed_first}
+use Rattle.search_laws.proofs.HoldLaws.{first_below, first_held, first_named, closed_first}
 
 -- no entry stands on the trail, and the input nogoods alone are held
 abbrev pub first_holding : GroundProgram → Holding
@@ -78,14 +77,13 @@ pub trail_as : (program : GroundProgram) (s : Shape) (t : Assignment) → t ≡ 
     → t ≡ first_trail program (record { variables = (shape_of program).variables; made = [] })
 trail_as program s t e f = e ∙ ap (λ (x : Shape). record { shape = x; level = 0; orders = record { variables = x.variables; made = [] }; entries = [] }) f
 
-pub set_begins : {X : Type 0} (program : GroundProgram) (numbered : Numbered) (meaning : X → Meaning) (given lent xs : List X) (s : Shape) (rows : Rows) → numbered ≡ numbering program → program.has_objective ≡ false → IsTight numbered
+pub set_begins : {X : Type 0} (program : GroundProgram) (numbered : Numbered) (meaning : X → Meaning) (given lent xs : List X) (s : Shape) (rows : Rows) → numbered ≡ numbering program → program.has_objective ≡ false
     → DoTheWork program (map meaning given) → AllFit (map meaning given) (shape_of program) → xs ≡ given → lent ≡ xs → s ≡ shape_of program → HasRows s (length lent) rows → AreWakes rows (map meaning lent) → All IsSteady (map meaning lent)
     → IsSet program (map meaning xs) rows
-set_begins program numbered meaning given lent xs s rows e plain tight work fit same lending shape has wakes steady =
+set_begins program numbered meaning given lent xs s rows e plain work fit same lending shape has wakes steady =
     let long : length lent ≡ length (map meaning xs) = ap length lending ∙ sym (length-map xs meaning) in
     record {
       plain = plain;
-      tight = subst IsTight e tight;
       work = subst (λ zs. DoTheWork program (map meaning zs)) (sym same) work;
       fit = subst (λ zs. AllFit (map meaning zs) (shape_of program)) (sym same) fit;
       steady = subst (λ zs. All IsSteady (map meaning zs)) lending steady;

@@ -1,8 +1,3 @@
-pub mod QuietLaws
-pub mod LevelLaws
-pub mod EventLaws
-pub mod LineLaws
-pub mod HoldLaws
 pub mod SearchLaws
 pub mod TurnLaws
 pub mod SeekLaws

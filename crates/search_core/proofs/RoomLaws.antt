@@ -12,7 +12,7 @@ use Rattle.propagator_core.specs.Several.{AllStand}
 use Rattle.propagation.specs.Waking.{Rows, OthersRest}
 use Rattle.learning.specs.Known.{Known, state_of}
 use Rattle.search_core.specs.inner.Invariant.{IsSearch}
-use Rattle.search_core.proofs.HoldLaws.{closed_push}
+use Rattle.search_laws.proofs.HoldLaws.{closed_push}
 
 -- what stands of these propagators stands of the same ones as a vector has them
 pub same_search : {X : Type 0} (meaning : X → Meaning) (program : GroundProgram) (known : Known) (holding : Holding) (t : Assignment) (rows : Rows) (xs ys : List X) → ys ≡ xs

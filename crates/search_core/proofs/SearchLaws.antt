@@ -1,5 +1,5 @@
 -- What holds of a search at each of its moments, kept by each of its steps.
-use Rattle.std.proofs.Common.{◌⊎◌, inl, inr, ◌≡◌, ℕ, zero, suc, ◌+◌, ◌<◌, ◌≤◌, max, IsTrue, List, [], ◌∷◌, ◌++◌, length, get_or, Option, None, Some, refl, sym, ap, subst, arith}
+use Rattle.std.proofs.Common.{◌⊎◌, inl, inr, ◌≡◌, ℕ, zero, suc, ◌+◌, ◌<◌, ◌≤◌, ◌||◌, max, Bool, true, false, IsTrue, List, [], ◌∷◌, ◌++◌, length, get_or, Option, None, Some, refl, sym, ap, subst, arith}
 use Rattle.std.specs.List.{All, AllByRecursion}
 use Rattle.std.proofs.lemmas.Option.{get_or_from_slice_get, slice_get_within}
 use Rattle.symbols.specs.declared.ends.Ends.{Ends}
@@ -13,7 +13,7 @@ use Rattle.trail.specs.Assignment.{Assignment, IsAssignment, Follow, Names, trut
 use Rattle.trail.specs.Growth.{Grows}
 use Rattle.trail.proofs.GrowthLaws.{grows_set}
 use Rattle.trail.proofs.AssignmentLaws.{undone_all}
-use Rattle.nogood_store.specs.Holding.{Held, Holding, IsFront, seen_of}
+use Rattle.nogood_store.specs.Holding.{Held, Holding, IsHeld, IsFront, seen_of}
 use Rattle.conflict_analysis.specs.Levels.{level_at, level_since, level_on, highest, IsAsserting}
 use Rattle.derivation_meaning.specs.State.{Best, cost_in}
 use Rattle.propagator_core.specs.Meaning.{Meaning}
@@ -22,22 +22,31 @@ use Rattle.propagator_core.specs.Quiet.{IsSteady}
 use Rattle.propagator_core.proofs.SeveralLaws.{stands_on}
 use Rattle.trail_worlds.specs.Calm.{IsCalm}
 use Rattle.propagation.specs.Waking.{Rows, HasRows, OthersRest}
-use Rattle.propagation.specs.Causes.{IsCaused, IsMetBy, opened}
+use Rattle.propagation.specs.Causes.{opened}
+use Rattle.unfounded_sets.specs.Dependence.{Dependence, dependence_of, positive_atoms, Fits}
+use Rattle.unfounded_sets.specs.Loops.{shows_loop}
+use Rattle.unfounded_sets.specs.Laws.{HoldsSupports}
+use Rattle.unfounded_sets.proofs.LawLemmas.{holds_law}
+use Rattle.unfounded_sets.proofs.ReasonLemmas.{shown_law}
+use Rattle.founded_propagation.specs.Founding.{valid_with, IsCausedWith, IsMetWith}
+use Rattle.linear_normal.specs.declared.numbered.Conjunction.{Conjunction}
+use Rattle.linear_normal.specs.Numbering.{numbering}
+use Rattle.linear_normal.specs.Steps.{is_valid}
 use Rattle.learning.specs.Known.{Known}
 use Rattle.learning.specs.Learning.{AreNumbered, IsAnswered}
 use Rattle.learning.specs.Told.{IsTellableStart}
 use Rattle.conflict_analysis.specs.declared.learned.Start.{Start}
 use Rattle.conflict_analysis.specs.declared.learned.Start.TheVariants as start
 use Rattle.conflict_analysis.specs.Chains.{IsConflicting}
-use Rattle.learning.specs.Explained.{IsExplained}
+use Rattle.learning.specs.Explained.{IsExplained, IsSound}
 use Rattle.completion.specs.Inputs.{input_nogoods}
 use Rattle.trail_worlds.specs.Total.{shape_of}
-use Rattle.std.proofs.lemmas.List.{length_push}
+use Rattle.std.proofs.lemmas.List.{length_push, length-map}
 use Rattle.learning.proofs.ExplainedLaws.{growth_law, decision_law, undo_law, hold_law, starts_law}
-use Rattle.search_core.specs.inner.Levels.{IsCalmBelow}
+use Rattle.search_laws.specs.Levels.{IsCalmBelow}
 use Rattle.search_core.specs.inner.Invariant.{IsSet, IsTold, IsSearch}
-use Rattle.search_core.proofs.LevelLaws.{calm_opened, calm_grown, calm_like}
-use Rattle.search_core.proofs.HoldLaws.{all_push, held_more, front_more}
+use Rattle.search_laws.proofs.LevelLaws.{calm_opened, calm_grown, calm_like}
+use Rattle.search_laws.proofs.HoldLaws.{all_push, held_more, front_more}
 
 -- AS ONE OF THE SAME
 
@@ -48,18 +57,38 @@ search_like program known held holding t ms ns rows e f s =
     subst (λ qs. IsSearch program known holding t qs rows) (sym f)
     (subst (λ hs. IsSearch program known (record { held = hs; looked = holding.looked }) t ms rows) (sym e) s)
 
+-- LOOPS
+
+-- what propagators or loops show is a valid step, whatever the cost
+sound_with : (program : GroundProgram) (ms : List Meaning) (d : Dependence) → d ≡ dependence_of program → IsSound program (some_valid ms) → IsSound program (valid_with ms d)
+sound_with program ms d e sound r h = by_test (some_valid ms (shape_of program) r) refl h
+  where
+    by_test : (b : Bool) → some_valid ms (shape_of program) r ≡ b → IsTrue (b || shows_loop d r) → is_valid program (numbering program) None r.nogood r.step ≡ true
+    by_test true at shown = sound r at
+    by_test false at shown = shown_law program r (subst (λ (q : Dependence). IsTrue (shows_loop q r)) e shown) program refl None
+
+-- the dependence of a program fits its trails
+pub fits_program : (program : GroundProgram) (d : Dependence) (s : Shape) → d ≡ dependence_of program → s ≡ shape_of program → Fits d s
+fits_program program d s e f =
+    subst (λ (q : Dependence). Fits q s) (sym e) (subst (Fits (dependence_of program)) (sym f)
+    (record { atoms = refl; bodies = sym (length-map (numbering program).bodies (λ (body : Conjunction). positive_atoms body.lits)) }))
+
+-- and where the input nogoods are held it is held that true atoms have true bodies
+pub supports_program : (program : GroundProgram) (d : Dependence) (held : List Held) → d ≡ dependence_of program → AllByRecursion (IsHeld held) (input_nogoods program) → HoldsSupports d held
+supports_program program d held e inputs = subst (λ (q : Dependence). HoldsSupports q held) (sym e) (holds_law program held inputs)
+
 -- GROWTH
 
 -- propagation
-pub search_grown : (program : GroundProgram) (known : Known) (before after : Holding) (t u : Assignment) (ms ns : List Meaning) (rows : Rows) → IsSearch program known before t ms rows
-    → Grows (IsCaused before.held ms) t u → after.held ≡ before.held → ns ≡ ms → IsFront after.looked (seen_of u.entries) → IsSearch program known after u ns rows
-search_grown program known before after t u ms ns rows s g same means looked =
+pub search_grown : (program : GroundProgram) (known : Known) (before after : Holding) (t u : Assignment) (ms ns : List Meaning) (rows : Rows) (d : Dependence) → IsSearch program known before t ms rows
+    → d ≡ dependence_of program → Grows (IsCausedWith before.held ms d) t u → after.held ≡ before.held → ns ≡ ms → IsFront after.looked (seen_of u.entries) → IsSearch program known after u ns rows
+search_grown program known before after t u ms ns rows d s e g same means looked =
     search_like program known before.held after u ms ns rows same means (record {
       is_set = s.is_set;
-      explained = growth_law program (cost_in known.best) before.held (some_valid ms) t u s.is_set.work.sound s.held.named g s.explained;
+      explained = growth_law program (cost_in known.best) before.held (valid_with ms d) t u (sound_with program ms d e s.is_set.work.sound) s.held.named g s.explained;
       held = record { named = s.held.named; inputs = s.held.inputs; numbered = s.held.numbered; looked = looked };
       told = record { unclaimed = s.told.unclaimed; unbettered = s.told.unbettered; reached = s.told.reached; listed = s.told.listed };
-      calm = calm_grown (IsCaused before.held ms) before.held ms t u s.is_set.steady g s.calm;
+      calm = calm_grown (IsCausedWith before.held ms d) before.held ms t u s.is_set.steady g s.calm;
     })
 
 -- DECISIONS
@@ -181,20 +210,20 @@ calm_first held ms t is steady calm below = by_level (split t.level)
 -- CONFLICTS
 
 -- a nogood on which propagation stops is one from which something can be learned and told
-pub met_starts : (program : GroundProgram) (known : Known) (holding : Holding) (t : Assignment) (ms : List Meaning) (rows : Rows) (from : Start) → IsSearch program known holding t ms rows → IsMetBy holding.held ms t from
+pub met_starts : (program : GroundProgram) (known : Known) (holding : Holding) (t : Assignment) (ms : List Meaning) (rows : Rows) (d : Dependence) (from : Start) → IsSearch program known holding t ms rows → d ≡ dependence_of program → IsMetWith holding.held ms d t from
     → IsConflicting holding.held t from × IsTellableStart program (cost_in known.best) from
-met_starts program known holding t ms rows (start.Held id) s met = (starts_law program (cost_in known.best) holding.held (some_valid ms) t s.is_set.work.sound s.held.named s.explained.shape).0 id met
-met_starts program known holding t ms rows (start.Shown r) s met = (starts_law program (cost_in known.best) holding.held (some_valid ms) t s.is_set.work.sound s.held.named s.explained.shape).1 r met
+met_starts program known holding t ms rows d (start.Held id) s e met = (starts_law program (cost_in known.best) holding.held (valid_with ms d) t (sound_with program ms d e s.is_set.work.sound) s.held.named s.explained.shape).0 id met
+met_starts program known holding t ms rows d (start.Shown r) s e met = (starts_law program (cost_in known.best) holding.held (valid_with ms d) t (sound_with program ms d e s.is_set.work.sound) s.held.named s.explained.shape).1 r met
 
-pub is_answered : (program : GroundProgram) (known : Known) (holding : Holding) (t : Assignment) (ms : List Meaning) (rows : Rows) (last : ℕ) (from : Start) → IsSearch program known holding t ms rows → IsMetBy holding.held ms t from → known.next ≡ last + 1
+pub is_answered : (program : GroundProgram) (known : Known) (holding : Holding) (t : Assignment) (ms : List Meaning) (rows : Rows) (d : Dependence) (last : ℕ) (from : Start) → IsSearch program known holding t ms rows → d ≡ dependence_of program → IsMetWith holding.held ms d t from → known.next ≡ last + 1
     → IsAnswered program known last holding.held t from
-is_answered program known holding t ms rows last from s met next = record {
+is_answered program known holding t ms rows d last from s e met next = record {
   next = next;
   unclaimed = s.told.unclaimed;
   numbered = s.held.numbered;
   shape = s.explained.shape;
   told = s.explained.tellable;
-  start_told = (met_starts program known holding t ms rows from s met).1;
+  start_told = (met_starts program known holding t ms rows d from s e met).1;
 }
 
 -- ROWS

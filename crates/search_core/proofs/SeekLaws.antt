@@ -15,9 +15,10 @@ use Rattle.search_core.specs.declared.event.Stop.TheVariants as stop
 use Rattle.search_core.specs.declared.room.Room.{Room}
 use Rattle.search_core.specs.Searching.{Searching, Goes, Stops, IsAtLimit, IsCut, is_exhausted}
 use Rattle.search_core.specs.inner.Rooms.{Turns, ComesWhen, state_in, searching_of}
-use Rattle.search_core.specs.inner.Lines.{answer_line, end_line, claim_after, Gives, Ends, IsFullAt, IsLed}
-use Rattle.search_core.proofs.EventLaws.{answer_given}
-use Rattle.search_core.proofs.LineLaws.{count_append, lead_none, lead_on, same_given, remaining_back, remaining_on, joined_valid, joined_leads, joined_gives}
+use Rattle.search_laws.specs.Giving.{answer_line, end_line, claim_after}
+use Rattle.search_core.specs.inner.Lines.{Gives, Ends, IsFullAt, IsLed}
+use Rattle.search_laws.proofs.EventLaws.{answer_given}
+use Rattle.search_laws.proofs.LineLaws.{count_append, lead_none, lead_on, same_given, remaining_back, remaining_on, joined_valid, joined_leads, joined_gives}
 
 end_given : (count : ℕ) → given_in (end_line count ∷ []) ≡ []
 end_given zero = refl

@@ -22,27 +22,30 @@ use Rattle.propagator_core.specs.Quiet.{IsSteady}
 use Rattle.trail_worlds.specs.Total.{shape_of, IsTotal}
 use Rattle.trail_worlds.specs.Worlds.{answer_on}
 use Rattle.trail_worlds.specs.Calm.{IsCalm}
+use Rattle.trail_worlds.specs.Founded.{IsFounded}
+use Rattle.linear_normal.specs.Numbering.{numbering}
 use Rattle.propagation.specs.Waking.{Rows, OthersRest}
 use Rattle.learning.specs.declared.known.Given.{Given}
 use Rattle.learning.specs.Known.{Known, state_of, IsReached}
 use Rattle.learning.specs.Learning.{IsLesson}
 use Rattle.learning.proofs.StateLaws.{reach_law, given_law}
-use Rattle.search_core.specs.inner.Levels.{IsCalmBelow}
+use Rattle.search_laws.specs.Levels.{IsCalmBelow}
 use Rattle.search_core.specs.inner.Invariant.{IsSearch}
-use Rattle.search_core.specs.inner.Lines.{answer_line, end_line, claim_after, Gives, Ends}
-use Rattle.search_core.proofs.EventLaws.{answer_rests, answer_unlisted, none_remains, answer_valid, answer_after, end_valid}
-use Rattle.search_core.proofs.LevelLaws.{calm_learned}
-use Rattle.search_core.proofs.LineLaws.{next_counts}
-use Rattle.search_core.proofs.HoldLaws.{listed_more, listed_given, numbered_learned, numbered_given}
+use Rattle.search_laws.specs.Giving.{answer_line, end_line, claim_after}
+use Rattle.search_core.specs.inner.Lines.{Gives, Ends}
+use Rattle.search_laws.proofs.EventLaws.{answer_rests, answer_unlisted, none_remains, answer_valid, answer_after, end_valid}
+use Rattle.search_laws.proofs.LevelLaws.{calm_learned}
+use Rattle.search_laws.proofs.LineLaws.{next_counts}
+use Rattle.search_laws.proofs.HoldLaws.{listed_more, listed_given, numbered_learned, numbered_given}
 use Rattle.search_core.proofs.SearchLaws.{search_held, calm_lowest, calm_first, asserting_below, rest_calm}
 
 -- ANSWERS
 
 -- the answer of a trail on which all is decided and calm is a model
-pub answer_is : (program : GroundProgram) (known : Known) (holding : Holding) (t : Assignment) (ms : List Meaning) (rows : Rows) → IsSearch program known holding t ms rows → IsAssignment t → IsTotal t → IsCalm holding.held ms t
+pub answer_is : (program : GroundProgram) (known : Known) (holding : Holding) (t : Assignment) (ms : List Meaning) (rows : Rows) → IsSearch program known holding t ms rows → IsAssignment t → IsTotal t → IsCalm holding.held ms t → IsFounded (numbering program) t
     → IsAnswerOf program (answer_on t)
-answer_is program known holding t ms rows s is total calm =
-    answer_rests program holding.held ms t is s.explained.shape total s.held.inputs calm s.is_set.steady (subst (AllFit ms) (sym s.explained.shape) s.is_set.fit) s.is_set.work s.is_set.tight
+answer_is program known holding t ms rows s is total calm founded =
+    answer_rests program holding.held ms t is s.explained.shape total s.held.inputs calm s.is_set.steady (subst (AllFit ms) (sym s.explained.shape) s.is_set.fit) s.is_set.work founded
 
 -- what is known after an answer under the next id
 abbrev pub known_given : Known → ℕ → Answer → Known
@@ -59,10 +62,10 @@ given_leads program known held id answer below e =
 
 -- the line of the answer is valid, and leads on
 pub gives : (program : GroundProgram) (known : Known) (holding : Holding) (t : Assignment) (ms : List Meaning) (rows : Rows) (id : ℕ) (answer : Answer) → IsSearch program known holding t ms rows → IsAssignment t → IsTotal t
-    → IsCalm holding.held ms t → known.next ≡ id → answer ≡ answer_on t → Gives program (state_of holding.held known) (state_of (held_given program holding.held id answer) (known_given known id answer)) answer
-gives program known holding t ms rows id answer s is total calm e said =
+    → IsCalm holding.held ms t → IsFounded (numbering program) t → known.next ≡ id → answer ≡ answer_on t → Gives program (state_of holding.held known) (state_of (held_given program holding.held id answer) (known_given known id answer)) answer
+gives program known holding t ms rows id answer s is total calm founded e said =
     let S : State = state_of holding.held known in
-    let model : IsAnswerOf program answer = subst (IsAnswerOf program) (sym said) (answer_is program known holding t ms rows s is total calm) in
+    let model : IsAnswerOf program answer = subst (IsAnswerOf program) (sym said) (answer_is program known holding t ms rows s is total calm founded) in
     let leads = given_leads program known holding.held id answer s.held.numbered.below e in
     record {
       valid = answer_valid program S answer s.told.unclaimed s.is_set.plain model (unlisted S);
@@ -92,11 +95,11 @@ reached_given program old new answer reached g =
 
 -- the search goes on at level 0, where the nogood of the answer is held
 pub search_given : (program : GroundProgram) (known then : Known) (before after : Holding) (t u : Assignment) (ms ns : List Meaning) (rows : Rows) (id : ℕ) (answer : Answer) → IsSearch program known before t ms rows → IsAssignment t
-    → IsTotal t → IsCalm before.held ms t → known.next ≡ id → answer ≡ answer_on t → AllByRecursion (Names (shape_of program)) (answer_nogood program answer)
+    → IsTotal t → IsCalm before.held ms t → IsFounded (numbering program) t → known.next ≡ id → answer ≡ answer_on t → AllByRecursion (Names (shape_of program)) (answer_nogood program answer)
     → u ≡ undone_to 0 t → after.held ≡ held_given program before.held id answer → ns ≡ ms → IsFront after.looked (seen_of u.entries) → then ≡ known_given known id answer → IsSearch program then after u ns rows
-search_given program known then before after t u ms ns rows id answer s is total calm e said names back more means looked noted =
+search_given program known then before after t u ms ns rows id answer s is total calm founded e said names back more means looked noted =
     let h : Held = record { id = id; nogood = answer_nogood program answer } in
-    let g = gives program known before t ms rows id answer s is total calm e said in
+    let g = gives program known before t ms rows id answer s is total calm founded e said in
     subst (λ (k : Known). IsSearch program k after u ns rows) (sym noted)
     (search_held program known (known_given known id answer) before after t u 0 ms ns rows h s is back more means looked names
     (numbered_given known before.held id (answer_nogood program answer) answer e s.held.numbered) refl

@@ -1,4 +1,3 @@
-pub mod Levels
 pub mod Invariant
 pub mod Lines
 pub mod Rooms

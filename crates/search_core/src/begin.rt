@@ -1,41 +1,30 @@
 // A new search.
 ghost use Rattle.std.specs.Prelude.{◌≡◌, ◌<◌, ◌^◌, false, map, length, IfOk};
-ghost use Rattle.std.specs.List.{list_any};
 ghost use Rattle.linear_normal.specs.Numbering as the_numbering;
 ghost use Rattle.completion.specs.Inputs.{input_nogoods};
-ghost use Rattle.completion.specs.Tight.{IsTight};
 ghost use Rattle.trail.specs.Assignment.{Assignment as TheTrail};
-ghost use Rattle.derivation_meaning.specs.State.{start, is_empty};
+ghost use Rattle.derivation_meaning.specs.State.{start, holds_empty};
 ghost use Rattle.propagator_core.specs.Several.{AllFit, AllStand};
+ghost use Rattle.propagation.specs.Waking.{OthersRest};
 ghost use Rattle.trail_worlds.specs.Total.{shape_of};
+ghost use Rattle.unfounded_sets.specs.Dependence.{dependence_of};
+ghost use Rattle.learning.specs.Known.{state_of};
 ghost use Rattle.propagators.specs.Work.{DoTheWork};
+ghost use Rattle.search_core.specs.inner.Invariant.{IsSearch};
 ghost use Rattle.search_core.specs.inner.Rooms.{GoesOn, state_in};
 
-use crate::notes::Notes;
+use crate::pieces::{Holdings, Tools, holdings_for, tools_for};
 use crate::room::Room;
 use conflict_analysis::Marks;
-use decisions::{Advice, Restarts};
+use decisions::Restarts;
 use ground_model::GroundProgram;
 use linear_normal::Numbered;
 use literals::Nogood;
-use nogood_store::Store;
-use propagation::{Queue, Wakes};
 use propagator_core::Propagator;
 use std::alloc::Global;
 use symbols::{Listed, Memory};
-use trail::{Shape, Trail};
-
-// Whether one of the nogoods has no literal.
-fn has_empty(nogoods: &[Nogood]) -> bool
-    ensures { result ≡ list_any is_empty nogoods.now }
-{
-    for nogood in nogoods {
-        if nogood.lits().is_empty() {
-            return true;
-        }
-    }
-    false
-}
+use trail::Shape;
+use unfounded_sets::Unfounded;
 
 // The shape of the program's trails.
 fn shape_for(ground: &GroundProgram, numbered: &Numbered) -> Shape
@@ -53,20 +42,67 @@ fn shape_for(ground: &GroundProgram, numbered: &Numbered) -> Shape
     }
 }
 
+// All that a search works with, of its pieces.
+fn room_of<P: Propagator>(
+    alloc: Global,
+    ground: GroundProgram,
+    loops: Unfounded,
+    propagators: Vec<P>,
+    holdings: Holdings,
+    tools: Tools,
+) -> Room<P>
+    requires search { IsSearch ground holdings.notes holdings.store holdings.trail (map P.meaning propagators.items) tools.wakes }
+    requires stand { AllStand P.stands P.looked propagators.items holdings.trail }
+    requires count { tools.awake.count ≡ length propagators.items }
+    requires closed { holdings.closed ≡ holds_empty (state_of holdings.store.held holdings.notes) }
+    requires loops { loops ≡ dependence_of ground }
+    requires rested { OthersRest tools.awake.places (map P.meaning propagators.items) holdings.trail }
+    ensures goes_on { GoesOn P.meaning P.stands P.looked result }
+    ensures program { result.ground ≡ ground }
+    ensures state { state_in result ≡ state_of holdings.store.held holdings.notes }
+{
+    let Holdings {
+        trail,
+        store,
+        notes,
+        closed,
+    } = holdings;
+    let Tools {
+        wakes,
+        awake,
+        advice,
+    } = tools;
+    Room {
+        ground,
+        trail,
+        store,
+        loops,
+        propagators,
+        wakes,
+        awake,
+        advice,
+        restarts: Restarts::new(),
+        marks: Marks::new(alloc),
+        notes,
+        closed,
+    }
+}
+
 /// All that a search works with, before the first line.
 pub(crate) fn begin<P: Propagator>(
     alloc: Global,
     ground: GroundProgram,
     numbered: Numbered,
+    loops: Unfounded,
     input: Listed<Nogood>,
     propagators: Listed<P>,
 ) -> Result<Room<P>, Memory>
     requires numbered { numbered ≡ the_numbering.numbering ground }
     requires few_bodies { length numbered.bodies < 2 ^ 32 }
     requires few_constraints { length numbered.constraints < 2 ^ 32 }
+    requires loops { loops ≡ dependence_of ground }
     requires input { input ≡ input_nogoods ground }
     requires plain { ground.has_objective ≡ false }
-    requires tight { IsTight numbered }
     requires fit { AllFit (map P.meaning propagators) (shape_of ground) }
     requires new { (t : TheTrail) → AllStand P.stands P.looked propagators t }
     requires work { DoTheWork ground (map P.meaning propagators) }
@@ -75,25 +111,8 @@ pub(crate) fn begin<P: Propagator>(
     ensures state { IfOk result (λ room. state_in room ≡ start ground) }
 {
     let shape = shape_for(&ground, &numbered);
-    let closed = has_empty(input.items());
-    let inputs = input.len() as u64;
     let propagators = propagators.into_vec();
-    let trail = Trail::new(alloc, shape)?;
-    let store = Store::new(alloc, input)?;
-    let wakes = Wakes::new(alloc, shape, &propagators)?;
-    let awake = Queue::new(alloc, propagators.len())?;
-    let advice = Advice::new(alloc, shape)?;
-    Ok(Room {
-        ground,
-        trail,
-        store,
-        propagators,
-        wakes,
-        awake,
-        advice,
-        restarts: Restarts::new(),
-        marks: Marks::new(alloc),
-        notes: Notes::new(alloc, inputs),
-        closed,
-    })
+    let holdings = holdings_for(alloc, shape, input)?;
+    let tools = tools_for(alloc, shape, &propagators)?;
+    Ok(room_of(alloc, ground, loops, propagators, holdings, tools))
 }

@@ -6,7 +6,8 @@ ghost use Rattle.search_core.specs.inner.Rooms.{IsRoom, IsRested, Keeps, Decides
 use crate::room::{Room, trails_are_assignments};
 use conflict_analysis::Start;
 use decisions::choose;
-use propagation::{Found, decide, settle};
+use founded_propagation::settle_founded;
+use propagation::{Found, decide};
 use propagator_core::Propagator;
 use std::alloc::Global;
 use symbols::Memory;
@@ -14,7 +15,7 @@ use symbols::Memory;
 /// How a descent ended.
 #[derive(Debug, Drop)]
 pub(crate) enum Bottom {
-    /// All is decided, and nothing is left to propagate.
+    /// All is decided, nothing is left to propagate, and no set of atoms is unfounded.
     Total,
     /// All literals of the nogood are true.
     Conflict(Start),
@@ -29,8 +30,9 @@ fn propagate<P: Propagator>(alloc: Global, room: &mut Room<P>) -> Result<Found, 
     ensures longer { length room.old.trail.entries ≤ length room.new.trail.entries }
     ensures found { IfOk result (λ found. IsFound P.meaning room.new found) }
 {
-    settle(
+    settle_founded(
         alloc,
+        &mut room.loops,
         &mut room.store,
         &mut room.propagators,
         &room.wakes,

@@ -14,6 +14,7 @@ mod event;
 mod give;
 mod notes;
 mod overcome;
+mod pieces;
 mod room;
 mod search;
 mod seek;

@@ -1,6 +1,6 @@
 // What a search keeps of its derivation.
 ghost use Rattle.std.specs.Prelude.{◌≡◌, ◌+◌, ◌++◌, [], ◌∷◌, None, Some, OnOk, OnErr, length};
-ghost use Rattle.search_core.specs.inner.Lines.{claim_after};
+ghost use Rattle.search_laws.specs.Giving.{claim_after};
 
 use derivation_meaning::Claim;
 use ground_model::Answer;

@@ -10,6 +10,7 @@ use nogood_store::Store;
 use propagation::{Queue, Wakes};
 use propagator_core::Propagator;
 use trail::Trail;
+use unfounded_sets::Unfounded;
 
 /// All that a search works with.
 #[derive(Drop)]
@@ -20,6 +21,8 @@ pub(crate) struct Room<P: Propagator> {
     pub(crate) trail: Trail,
     /// The nogoods that are held: inputs, learned ones, and those of answers.
     pub(crate) store: Store,
+    /// What supports what in the program, and where unfounded sets are sought.
+    pub(crate) loops: Unfounded,
     /// The constraints at work; which of them look at what, and which have to be called.
     pub(crate) propagators: Vec<P>,
     pub(crate) wakes: Wakes,

@@ -1,10 +1,9 @@
 // The search.
-ghost use Rattle.std.specs.Prelude.{◌≡◌, ◌<◌, ◌^◌, false, true, List, map, length, IfOk, OnErr, IsErrOf, Ok};
+ghost use Rattle.std.specs.Prelude.{◌≡◌, ◌<◌, ◌≤◌, ◌^◌, false, true, List, map, length, IfOk, OnErr, IsErrOf, Ok};
 ghost use Rattle.std.specs.List.{All};
 ghost use Rattle.ground_model.specs.declared.answer.Answer.{Answer as TheAnswer};
 ghost use Rattle.linear_normal.specs.Numbering as the_numbering;
 ghost use Rattle.completion.specs.Inputs.{input_nogoods};
-ghost use Rattle.completion.specs.Tight.{IsTight};
 ghost use Rattle.trail.specs.Assignment.{Assignment as TheTrail};
 ghost use Rattle.derivation_meaning.specs.State.{start};
 ghost use Rattle.propagator_core.specs.Several.{AllFit, AllStand};
@@ -25,6 +24,7 @@ use propagator_core::Propagator;
 use std::alloc::Global;
 use std::marker::Model;
 use symbols::{Listed, Memory};
+use unfounded_sets::Unfounded;
 
 /// A search for the constraint stable models of a program, one after another.
 ///
@@ -71,13 +71,13 @@ impl<P: Propagator> Search<P> {
         requires few_constraints { length numbered.constraints < 2 ^ 32 }
         requires input { input ≡ input_nogoods ground }
         requires plain { ground.has_objective ≡ false }
-        requires tight { IsTight numbered }
         requires fit { AllFit (map P.meaning propagators) (shape_of ground) }
         requires new { (t : TheTrail) → AllStand P.stands P.looked propagators t }
         requires work { DoTheWork ground (map P.meaning propagators) }
         ensures { IfOk result (λ s. s ≡ begun ground (start ground)) }
     {
-        let room = begin(alloc, ground, numbered, input, propagators)?;
+        let loops = Unfounded::new(alloc, &ground, &numbered)?;
+        let room = begin(alloc, ground, numbered, loops, input, propagators)?;
         Ok(Search {
             alloc,
             room,
@@ -118,6 +118,7 @@ impl<P: Propagator> Search<P> {
         ensures program { self.new.program ≡ self.old.program }
         ensures goes { IfOk result (λ event. Goes self.old self.new event) }
         ensures answer { (answer : TheAnswer) → result ≡ Ok (the_event.Answer answer) → self.new.conflicts < limit }
+        ensures within { IfOk result (λ event. self.new.conflicts ≤ limit) }
         ensures stop { (stop : TheStop) → IsErrOf result stop → Stops limit self.old self.new stop }
         ensures spent { IfOk result (λ event. self.new.spent ≡ is_exhausted event) }
         ensures stopped { OnErr result (self.new.spent ≡ true) }

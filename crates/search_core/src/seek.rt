@@ -1,5 +1,5 @@
 // The search, turn by turn.
-ghost use Rattle.std.specs.Prelude.{◌≡◌, ◌<◌, false, true, IsTrue, IfOk, IsErrOf, Ok, Some};
+ghost use Rattle.std.specs.Prelude.{◌≡◌, ◌<◌, ◌≤◌, false, true, IsTrue, IfOk, IsErrOf, Ok, Some};
 ghost use Rattle.ground_model.specs.declared.answer.Answer.{Answer as TheAnswer};
 ghost use Rattle.search_core.specs.declared.event.Event.TheVariants as the_event;
 ghost use Rattle.search_core.specs.declared.event.Stop.{Stop as TheStop};
@@ -72,6 +72,7 @@ pub(crate) fn seek<P: Propagator>(
     ensures goes { IfOk result (λ event. Goes (searching_of room.old conflicts.old false) (searching_of room.new conflicts.new (is_exhausted event)) event) }
     ensures stays_on { IfOk result (λ event. StaysOn P.meaning P.stands P.looked room.new (Some event)) }
     ensures below { (answer : TheAnswer) → result ≡ Ok (the_event.Answer answer) → conflicts.new < limit }
+    ensures within { IfOk result (λ event. conflicts.new ≤ limit) }
     ensures stop { (stop : TheStop) → IsErrOf result stop → Stops limit (searching_of room.old conflicts.old false) (searching_of room.new conflicts.new true) stop }
 {
     'seek: loop {

@@ -2,9 +2,7 @@
 use Rattle.std.specs.Prelude.{◌≡◌, false, List, length, None}
 use Rattle.std.specs.List.{All, AllByRecursion}
 use Rattle.ground_model.specs.declared.program.GroundProgram.{GroundProgram}
-use Rattle.linear_normal.specs.Numbering.{numbering}
 use Rattle.completion.specs.Inputs.{input_nogoods}
-use Rattle.completion.specs.Tight.{IsTight}
 use Rattle.trail.specs.Assignment.{Assignment}
 use Rattle.nogood_store.specs.Holding.{Holding, IsHeld, IsFront, seen_of}
 use Rattle.nogood_store.specs.Propagation.{AllNamed}
@@ -19,12 +17,11 @@ use Rattle.learning.specs.Known.{Known, state_of, IsReached, AreListed}
 use Rattle.learning.specs.Learning.{AreNumbered}
 use Rattle.learning.specs.Explained.{IsExplained}
 use Rattle.propagators.specs.Work.{DoTheWork}
-use Rattle.search_core.specs.inner.Levels.{IsCalmBelow}
+use Rattle.search_laws.specs.Levels.{IsCalmBelow}
 
--- what never changes: the program has no objective and is tight, the propagators are the program's, and stand in the rows of all that they look at
+-- what never changes: the program has no objective, the propagators are the program's, and stand in the rows of all that they look at
 pub record IsSet (program : GroundProgram) (ms : List Meaning) (rows : Rows) : Type 0 where
   pub plain : program.has_objective ≡ false
-  pub tight : IsTight (numbering program)
   pub work : DoTheWork program ms
   pub fit : AllFit ms (shape_of program)
   pub steady : All IsSteady ms

@@ -1,34 +1,13 @@
 -- The lines that a search gives beside those of what it learns. Only the code of this crate reads this file.
-use Rattle.std.specs.Prelude.{◌≡◌, ℕ, zero, suc, ◌+◌, ◌^◌, true, ℤ, List, [], ◌∷◌, ◌++◌, length, None, Some}
+use Rattle.std.specs.Prelude.{◌≡◌, ℕ, ◌+◌, ◌^◌, true, [], ◌∷◌, ◌++◌, length, None, Some}
 use Rattle.ground_model.specs.declared.answer.Answer.{Answer}
 use Rattle.ground_model.specs.declared.program.GroundProgram.{GroundProgram}
-use Rattle.derivation.specs.declared.line.Line.{Line}
-use Rattle.derivation.specs.declared.line.Line.TheVariants as l
-use Rattle.derivation_meaning.specs.declared.claim.Claim.{Claim}
-use Rattle.derivation_meaning.specs.declared.claim.Claim.TheVariants as claim
 use Rattle.derivation_meaning.specs.State.{State, holds_empty}
 use Rattle.derivation_meaning.specs.Valid.{IsValid, after}
 use Rattle.derivation_meaning.specs.Claims.{IsRemaining}
 use Rattle.learning.specs.Learning.{Lead}
+use Rattle.search_laws.specs.Giving.{answer_line, end_line, claim_after}
 use Rattle.search_core.specs.Searching.{NoneRemains}
-
--- the values of the variables from this one on
-abbrev pub values_from : ℕ → List ℤ → List (ℕ × ℤ)
-values_from x [] = []
-values_from x (value ∷ values) = (x, value) ∷ values_from (x + 1) values
-
--- the line that gives an answer
-abbrev pub answer_line : Answer → Line
-answer_line answer = l.Answer answer.atoms (values_from 1 answer.values)
-
--- what is claimed after so many answers, and the line that claims it
-abbrev pub claim_after : ℕ → Claim
-claim_after zero = claim.Nothing
-claim_after (suc n) = claim.All (suc n)
-
-abbrev pub end_line : ℕ → Line
-end_line zero = l.EndNone
-end_line (suc n) = l.EndAll (suc n)
 
 -- the line that gives the answer is valid, leads from one state to the other, and the answer is a model that remained
 pub record Gives (program : GroundProgram) (old new : State) (answer : Answer) : Type 0 where

@@ -10,7 +10,9 @@ use Rattle.trail_worlds.specs.Total.{IsTotal}
 use Rattle.trail_worlds.specs.Calm.{IsCalm}
 use Rattle.propagation.specs.declared.found.Found.{Found}
 use Rattle.propagation.specs.Waking.{OthersRest}
-use Rattle.propagation.specs.Causes.{IsMetBy, Finds}
+use Rattle.unfounded_sets.specs.Dependence.{dependence_of}
+use Rattle.unfounded_sets.specs.Loops.{IsLoopFree}
+use Rattle.founded_propagation.specs.Founding.{IsMetWith, FindsFounded}
 use Rattle.learning.specs.Known.{state_of}
 use Rattle.learning.specs.Learning.{Lead}
 use Rattle.search_core.specs.declared.event.Event.{Event}
@@ -33,12 +35,13 @@ searching_of room conflicts spent = record { program = room.ground; state = stat
 abbrev pub meanings_in : {P : Type 0} → (P → Meaning) → Room P → List Meaning
 meanings_in meaning room = map meaning room.propagators.items
 
--- it is that of a search at one of its moments, the propagators stand for the trail, and it is closed where the empty nogood is held
+-- it is that of a search at one of its moments, the propagators stand for the trail, it is closed where the empty nogood is held, and loops are sought by the program's dependence
 pub record IsRoom {P : Type 0} (meaning : P → Meaning) (stands : P → Ends → List Entry → Type 0) (looked : P → ℕ) (room : Room P) : Type 0 where
   pub search : IsSearch room.ground room.notes room.store room.trail (map meaning room.propagators.items) room.wakes
   pub stand : AllStand stands looked room.propagators.items room.trail
   pub count : room.awake.count ≡ length room.propagators.items
   pub closed : room.closed ≡ holds_empty (state_of room.store.held room.notes)
+  pub loops : room.loops ≡ dependence_of room.ground
 
 -- each propagator is awake or rests
 abbrev pub IsRested : {P : Type 0} → (P → Meaning) → Room P → Type 0
@@ -53,11 +56,11 @@ pub record Keeps {P : Type 0} (old new : Room P) : Type 0 where
 
 -- what propagation found
 abbrev pub IsFound : {P : Type 0} → (P → Meaning) → Room P → Found → Type 0
-IsFound meaning room found = Finds room.store.held (map meaning room.propagators.items) room.trail room.awake.places found
+IsFound meaning room found = FindsFounded room.store.held (map meaning room.propagators.items) room.loops room.trail room.awake.places found
 
--- all is decided and nothing is left to propagate
+-- all is decided, nothing is left to propagate and no set of atoms is unfounded
 abbrev pub IsBottom : {P : Type 0} → (P → Meaning) → Room P → Type 0
-IsBottom meaning room = IsTotal room.trail × IsCalm room.store.held (map meaning room.propagators.items) room.trail
+IsBottom meaning room = IsTotal room.trail × IsCalm room.store.held (map meaning room.propagators.items) room.trail × IsLoopFree room.loops room.trail
 
 -- whether a literal was decided: then the trail is longer, and can be counted; else all is decided
 abbrev pub Decides : {P : Type 0} → (P → Meaning) → Room P → Room P → Bool → Type 0
@@ -66,7 +69,7 @@ Decides meaning old new false = IsBottom meaning new
 
 -- all literals of the nogood are true
 abbrev pub IsMet : {P : Type 0} → (P → Meaning) → Room P → Start → Type 0
-IsMet meaning room from = IsMetBy room.store.held (map meaning room.propagators.items) room.trail from
+IsMet meaning room from = IsMetWith room.store.held (map meaning room.propagators.items) room.loops room.trail from
 
 -- how a descent ended
 abbrev pub Bottoms : {P : Type 0} → (P → Meaning) → Room P → Bottom → Type 0

@@ -5,33 +5,46 @@ use Rattle.propagator_core.specs.Several.{AllStand}
 use Rattle.search_core.proofs.FirstLaws.{known_as, search_begins, state_begins, closed_begins, rest_begins, set_begins, holding_as, trail_as, awake_as}
 use Rattle.search_core.proofs.begin.begin.Goals as goal
 
-pub returns-clause-goes_on : goal.returns-clause-goes_on
-returns-clause-goes_on g c =
+pub room_of-requires-clause-search : goal.room_of-requires-clause-search
+room_of-requires-clause-search g c =
     let P = g.P.Propagator in
     let program = c.args.ground in
     let xs = c.into_vec-propagators.result.items in
-    let given = c.into_vec-propagators.ensures in
-    let lent = c.deref.ensures.value in
-    let ms = map P.meaning xs in
-    let inputs = c.len-inputs.ensures ∙ ap length c.requires.input in
-    let known = known_as c.len-inputs.result c.new-8.result c.new-8.ensures program inputs in
-    let holding = holding_as program c.args.input c.in_ok-store.store c.in_ok-store.ensures c.requires.input in
-    let trail = trail_as program c.shape_for-shape.result c.in_ok-trail.trail c.in_ok-trail.ensures c.shape_for-shape.ensures in
-    let set = set_begins program c.args.numbered P.meaning c.args.propagators c.deref.result.now xs c.shape_for-shape.result c.in_ok-wakes.wakes c.requires.numbered c.requires.plain c.requires.tight c.requires.work c.requires.fit
-    (given) lent c.shape_for-shape.ensures c.in_ok-wakes.ensures.rows c.in_ok-wakes.ensures.wakes c.in_ok-wakes.ensures.steady in
-    let count = c.len.ensures ∙ sym c.deref.ensures.len ∙ ap length lent in
-    record {
-      is_room = record {
-        search = search_begins program c.new-8.result c.in_ok-store.store c.in_ok-trail.trail _ ms c.in_ok-wakes.wakes set known holding trail;
-        stand = subst (λ zs. AllStand P.stands P.looked zs c.in_ok-trail.trail) (sym given) (c.requires.new c.in_ok-trail.trail);
-        count = c.in_ok-awake.ensures.0 ∙ count;
-        closed = closed_begins program c.new-8.result c.in_ok-store.store c.has_empty-closed.result holding (c.has_empty-closed.ensures ∙ ap (list_any is_empty) (c.items.ensures ∙ c.requires.input));
-      };
-      rested = λ open_now. rest_begins P.meaning xs c.in_ok-awake.awake.places c.in_ok-trail.trail (awake_as c.in_ok-awake.awake.places _ (length xs) c.in_ok-awake.ensures.1 count);
-    }
+    let h = c.in_ok-holdings.holdings in
+    let s = c.shape_for-shape in
+    let made = c.in_ok-tools in
+    search_begins program h.notes h.store h.trail _ (map P.meaning xs) made.tools.wakes
+    (set_begins program c.args.numbered P.meaning c.args.propagators c.deref.result.now xs s.result made.tools.wakes c.requires.numbered c.requires.plain c.requires.work c.requires.fit
+    c.into_vec-propagators.ensures c.deref.ensures.value s.ensures made.ensures.rows made.ensures.wakes made.ensures.steady)
+    (known_as (length c.args.input) h.notes c.in_ok-holdings.ensures.notes program (ap length c.requires.input))
+    (holding_as program c.args.input h.store c.in_ok-holdings.ensures.store c.requires.input)
+    (trail_as program s.result h.trail c.in_ok-holdings.ensures.trail s.ensures)
+
+pub room_of-requires-clause-stand : goal.room_of-requires-clause-stand
+room_of-requires-clause-stand g c =
+    let P = g.P.Propagator in
+    let t = c.in_ok-holdings.holdings.trail in
+    subst (λ zs. AllStand P.stands P.looked zs t) (sym c.into_vec-propagators.ensures) (c.requires.new t)
+
+pub room_of-requires-clause-count : goal.room_of-requires-clause-count
+room_of-requires-clause-count g c = c.in_ok-tools.ensures.count ∙ ap length c.deref.ensures.value
+
+pub room_of-requires-clause-closed : goal.room_of-requires-clause-closed
+room_of-requires-clause-closed g c =
+    let h = c.in_ok-holdings in
+    closed_begins c.args.ground h.holdings.notes h.holdings.store h.holdings.closed (holding_as c.args.ground c.args.input h.holdings.store h.ensures.store c.requires.input) (h.ensures.closed ∙ ap (list_any is_empty) c.requires.input)
+
+pub room_of-requires-clause-rested : goal.room_of-requires-clause-rested
+room_of-requires-clause-rested g c =
+    let P = g.P.Propagator in
+    let xs = c.into_vec-propagators.result.items in
+    let made = c.in_ok-tools in
+    rest_begins P.meaning xs made.tools.awake.places c.in_ok-holdings.holdings.trail
+    (awake_as made.tools.awake.places _ (length xs) made.ensures.awake (ap length c.deref.ensures.value))
 
 pub returns-clause-state : goal.returns-clause-state
 returns-clause-state g c =
     let program = c.args.ground in
-    let inputs = c.len-inputs.ensures ∙ ap length c.requires.input in
-    state_begins program c.new-8.result c.in_ok-store.store (known_as c.len-inputs.result c.new-8.result c.new-8.ensures program inputs) (holding_as program c.args.input c.in_ok-store.store c.in_ok-store.ensures c.requires.input)
+    let h = c.in_ok-holdings in
+    c.room_of.ensures.state
+    ∙ state_begins program h.holdings.notes h.holdings.store (known_as (length c.args.input) h.holdings.notes h.ensures.notes program (ap length c.requires.input)) (holding_as program c.args.input h.holdings.store h.ensures.store c.requires.input)

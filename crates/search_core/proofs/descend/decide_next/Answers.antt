@@ -22,6 +22,7 @@ returns-clause-room g c =
       stand = stand_decided P.stands P.looked r.propagators.items r.trail c.decide.new.trail c.in-Some.lit lit.named lit.undecided c.in_ok-decide.ensures.trail c.requires.room.stand;
       count = c.decide.ensures.count ∙ c.requires.room.count;
       closed = c.requires.room.closed;
+      loops = c.requires.room.loops;
     }
 
 pub returns-clause-went : goal.returns-clause-went

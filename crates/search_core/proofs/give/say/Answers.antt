@@ -9,5 +9,5 @@ pub returns-clause-answer : goal.returns-clause-answer
 returns-clause-answer g c =
     let P = g.P.Propagator in
     let r = c.args.room.now in
-    let model = answer_is r.ground r.notes r.store r.trail (map P.meaning r.propagators.items) r.wakes c.requires.room.search c.trails_are_assignments.ensures.assignment c.requires.bottom.0 c.requires.bottom.1 in
+    let model = answer_is r.ground r.notes r.store r.trail (map P.meaning r.propagators.items) r.wakes c.requires.room.search c.trails_are_assignments.ensures.assignment c.requires.bottom.0 c.requires.bottom.1 (c.requires.bottom.2 r.ground c.requires.room.loops) in
     IfOk-weaker c.answer_of.result (λ a. a ≡ answer_on r.trail) (IsAnswerOf r.ground) (λ a e. subst (IsAnswerOf r.ground) (sym e) model) c.answer_of.ensures

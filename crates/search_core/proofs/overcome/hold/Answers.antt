@@ -2,7 +2,7 @@ use Rattle.std.proofs.Common.{map, length, refl, ap, sym, subst, ◌∙◌}
 use Rattle.std.proofs.lemmas.List.{with_items_is}
 use Rattle.nogood_store.specs.Holding.{IsFront, seen_of, AreBelow}
 use Rattle.propagator_core.proofs.SeveralLaws.{count_of}
-use Rattle.search_core.proofs.HoldLaws.{empty_test, below_up}
+use Rattle.search_laws.proofs.HoldLaws.{empty_test, below_up}
 use Rattle.search_core.proofs.TurnLaws.{back_low, next_learned, search_learned, rest_learned}
 use Rattle.search_core.proofs.RoomLaws.{same_search, same_stand, same_rest, held_then, closed_then, some_then}
 use Rattle.search_core.proofs.overcome.hold.Goals as goal
@@ -41,6 +41,7 @@ returns-clause-goes_on g c =
         stand = same_stand P.stands P.looked xs _ t items c.go_back.ensures.stand;
         count = c.go_back.ensures.count ∙ c.requires.room.count ∙ sym (count_of P.meaning r.propagators.items xs means) ∙ ap length (sym items);
         closed = closed_then r.store.held c.add.new.self.held r.notes c.take.new.self c.args.lesson.id learned.nogood r.closed c.is_empty-room.result c.requires.room.closed c.requires.open more empty;
+        loops = c.requires.room.loops;
       };
       rested = λ open_now.
           same_rest P.meaning c.go_back.new.awake.places xs _ t items

@@ -1,4 +1,4 @@
-use Rattle.std.proofs.Common.{◌+◌, sym, subst, ◌∙◌}
+use Rattle.std.proofs.Common.{◌+◌, arith, sym, subst, ◌∙◌}
 use Rattle.search_core.specs.inner.Rooms.{StaysOn, Turns, ComesWhen, state_in}
 use Rattle.search_core.proofs.SeekLaws.{led_on, turned_goes, turned_stops, limit_stops, answer_below, next_below}
 use Rattle.search_core.proofs.seek.seek.Goals as goal
@@ -39,6 +39,7 @@ seek-preserved g c =
       goes_on = subst (StaysOn P.meaning P.stands P.looked c.turn.new.room) c.in-Ok-None.field-0-is c.in-Ok-None.ensures.stays_on;
       led = led_on c.args.room.now.ground c.seek.room.ground (state_in c.args.room.now) (state_in c.seek.room) (state_in c.turn.new.room) c.args.conflicts.now c.seek.conflicts c.seek.invariant.led c.seek.invariant.program
           (subst (Turns c.seek.room c.turn.new.room) c.in-Ok-None.field-0-is c.in-Ok-None.ensures.turns);
+      within = let under = c.seek.invariant.below (subst (λ found. ComesWhen found c.seek.room.closed) c.in-Ok-None.field-0-is c.in-Ok-None.ensures.comes) in omega (arith, under);
       below = λ closed. next_below c.seek.conflicts c.args.limit (c.seek.invariant.below (subst (λ found. ComesWhen found c.seek.room.closed) c.in-Ok-None.field-0-is c.in-Ok-None.ensures.comes))
           (c.is_at_limit.ensures.under c.if-is_at_limit.false closed);
     }

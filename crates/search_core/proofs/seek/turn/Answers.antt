@@ -3,7 +3,7 @@ use Rattle.learning.specs.Known.{Known}
 use Rattle.search_core.specs.declared.event.Stop.TheVariants as stop
 use Rattle.search_core.specs.inner.Rooms.{state_in}
 use Rattle.search_core.proofs.SeekLaws.{err_as}
-use Rattle.search_core.proofs.LineLaws.{lead_none}
+use Rattle.search_laws.proofs.LineLaws.{lead_none}
 use Rattle.search_core.proofs.seek.turn.Goals as goal
 
 pub returns-in-Err-give-clause-full : goal.returns-in-Err-give-clause-full
