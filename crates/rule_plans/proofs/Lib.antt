@@ -1,0 +1,5 @@
+pub mod Occurrences
+pub mod Taken
+pub mod Closing
+pub mod Searched
+pub mod Laws
