@@ -36,7 +36,7 @@ use Rattle.program_meaning.proofs.SoundTuples.{heads, tails, nats_same, few_vari
 use Rattle.ground_rule_laws.specs.Laws.{AreKnownPlaces, SoundObjectiveLaw}
 use Rattle.ground_rule_laws.proofs.SoundPlaces.{IsListedTuple, all_different, each_sound}
 
-times_one : (c : ℤ) → c *ℤ pos 1 ≡ c
+pub times_one : (c : ℤ) → c *ℤ pos 1 ≡ c
 times_one c = *ℤ_comm c (pos 1) ∙ suc_ℤ-*ℤ (pos 0) c ∙ ap (λ z. z +ℤ c) (zero-*ℤ c) ∙ none c
   where
     none : (c : ℤ) → pos 0 +ℤ c ≡ c
@@ -47,7 +47,7 @@ module _ (variables : List Symbol) where
   numbered pair = (variable_number variables pair.0, pair.1)
 
   -- 1 for the variable of a number, and 0 for all others
-  abbrev one_at : ℕ → Symbol → ℤ
+  abbrev pub one_at : ℕ → Symbol → ℤ
   one_at k x = (if variable_number variables x == k then pos 1 else pos 0)
 
   counted : (b : Bool) (c : ℤ) → (if b then c else pos 0) ≡ c *ℤ (if b then pos 1 else pos 0)
@@ -61,11 +61,11 @@ module _ (variables : List Symbol) where
 
   -- ---- in a form in order it is one coefficient at most
 
-  has_number : (o : Option ℕ) (k : ℕ) → 0 < k → or_zero o ≡ k → o ≡ Some k
+  pub has_number : (o : Option ℕ) (k : ℕ) → 0 < k → or_zero o ≡ k → o ≡ Some k
   has_number None k l e = absurd (omega (arith, l, e))
   has_number (Some n) k l e = ap Some e
 
-  none_left : (k : ℕ) → 0 < k → (x : Symbol) → variable_number variables x ≡ k → (ps : List (Symbol × ℤ)) → AllByRecursion (λ p. symbol_cmp x p.0 ≡ Less) ps
+  pub none_left : (k : ℕ) → 0 < k → (x : Symbol) → variable_number variables x ≡ k → (ps : List (Symbol × ℤ)) → AllByRecursion (λ p. symbol_cmp x p.0 ≡ Less) ps
       → pairs_value (one_at k) ps ≡ pos 0
   none_left k l x e [] a = refl
   none_left k l x e (p ∷ ps) a = go (variable_number variables p.0 == k) refl (none_left k l x e ps a.1)
@@ -112,7 +112,7 @@ module _ (variables : List Symbol) where
       (λ i. (ap (coefficient k) first ∙ coefficient_value k p.linear.pairs) i +ℤ total_value k symbols held places (tails _ _ _ _ e) i)
       ∙ sym (pairs_sum (one_at k) p.linear.pairs (total places).pairs)
 
-  total_number : (symbols : List Symbol) (held : List Place) (places : List (PlaceOf Symbol)) → map (place_of symbols) held ≡ map (place_numbered variables) places
+  pub total_number : (symbols : List Symbol) (held : List Place) (places : List (PlaceOf Symbol)) → map (place_of symbols) held ≡ map (place_numbered variables) places
       → total_constant (first_places held) ≡ (total places).constant
   total_number symbols [] [] e = refl
   total_number symbols [] (p ∷ places) e = cc
@@ -120,12 +120,33 @@ module _ (variables : List Symbol) where
   total_number symbols (h ∷ held) (p ∷ places) e =
       λ i. ap (λ z. z.linear.constant) (heads _ _ _ _ e) i +ℤ total_number symbols held places (tails _ _ _ _ e) i
 
-  total_in_order : (places : List (PlaceOf Symbol)) → InOrder (total places).pairs
+  pub total_in_order : (places : List (PlaceOf Symbol)) → InOrder (total places).pairs
   total_in_order [] = tt
   total_in_order (p ∷ places) = sum_in_order p.linear.pairs (total places).pairs (total_in_order places)
 
   minus_sum : (a b : ℤ) → a -ℤ b ≡ a +ℤ (pos 0 -ℤ b)
   minus_sum a b = omega (arith, ints)
+
+  pub difference_value : (symbols : List Symbol) (held more : List Place) (places others : List (PlaceOf Symbol))
+      → map (place_of symbols) held ≡ map (place_numbered variables) places → map (place_of symbols) more ≡ map (place_numbered variables) others
+      → (k : ℕ) → total_coefficient k (first_places held) -ℤ total_coefficient k (first_places more) ≡ pairs_value (one_at k) (difference places (total others)).pairs
+  difference_value symbols held more places others e f k =
+      minus_sum (total_coefficient k (first_places held)) (total_coefficient k (first_places more))
+      ∙ (λ i. total_value k symbols held places e i +ℤ (pos 0 -ℤ total_value k symbols more others f i))
+      ∙ ap (λ z. pairs_value (one_at k) (total places).pairs +ℤ z) (sym (pairs_times (one_at k) (negsuc 0) (total others).pairs ∙ minus_one (pairs_value (one_at k) (total others).pairs)))
+      ∙ sym (pairs_sum (one_at k) (total places).pairs (scaled (negsuc 0) (total others)).pairs)
+
+  pub difference_number : (symbols : List Symbol) (held more : List Place) (places others : List (PlaceOf Symbol))
+      → map (place_of symbols) held ≡ map (place_numbered variables) places → map (place_of symbols) more ≡ map (place_numbered variables) others
+      → total_constant (first_places held) -ℤ total_constant (first_places more) ≡ (difference places (total others)).constant
+  difference_number symbols held more places others e f =
+      minus_sum (total_constant (first_places held)) (total_constant (first_places more))
+      ∙ (λ i. total_number symbols held places e i +ℤ (pos 0 -ℤ total_number symbols more others f i))
+      ∙ ap (λ z. (total places).constant +ℤ z) (sym (minus_one (total others).constant))
+
+  pub difference_in_order : (places others : List (PlaceOf Symbol)) → InOrder (difference places (total others)).pairs
+  difference_in_order places others =
+      sum_in_order (total places).pairs (scaled (negsuc 0) (total others)).pairs (scaled_in_order (negsuc 0) (total others).pairs (total_in_order others))
 
   -- the totals of two lists of tuples, over numbers and over symbols
   pub small_totals : (symbols : List Symbol) (held more : List Place) (places others : List (PlaceOf Symbol))
@@ -133,32 +154,23 @@ module _ (variables : List Symbol) where
       → is_small_form (difference places (total others)) ≡ true → is_small_difference (length variables) (first_places held) (first_places more) ≡ true
   small_totals symbols held more places others e f s =
       let both = and_elim (list_all (λ (p : Symbol × ℤ). is_small p.1) (difference places (total others)).pairs) (is_small (difference places (total others)).constant) s in
-      let up = sum_in_order (total places).pairs (scaled (negsuc 0) (total others)).pairs (scaled_in_order (negsuc 0) (total others).pairs (total_in_order others)) in
+      let up = difference_in_order places others in
       and_intro (list_all (λ x. is_small (total_coefficient x (first_places held) -ℤ total_coefficient x (first_places more))) (range_with_len 1 (length variables)))
       (is_small (total_constant (first_places held) -ℤ total_constant (first_places more)))
       (each up both.0 1 (length variables) (omega arith))
-      (ap is_small (minus_sum (total_constant (first_places held)) (total_constant (first_places more))
-      ∙ (λ i. total_number symbols held places e i +ℤ (pos 0 -ℤ total_number symbols more others f i))
-      ∙ ap (λ z. (total places).constant +ℤ z) (sym (minus_one (total others).constant))) ∙ both.1)
+      (ap is_small (difference_number symbols held more places others e f) ∙ both.1)
     where
-      value : (k : ℕ) → total_coefficient k (first_places held) -ℤ total_coefficient k (first_places more) ≡ pairs_value (one_at k) (difference places (total others)).pairs
-      value k =
-          minus_sum (total_coefficient k (first_places held)) (total_coefficient k (first_places more))
-          ∙ (λ i. total_value k symbols held places e i +ℤ (pos 0 -ℤ total_value k symbols more others f i))
-          ∙ ap (λ z. pairs_value (one_at k) (total places).pairs +ℤ z) (sym (pairs_times (one_at k) (negsuc 0) (total others).pairs ∙ minus_one (pairs_value (one_at k) (total others).pairs)))
-          ∙ sym (pairs_sum (one_at k) (total places).pairs (scaled (negsuc 0) (total others)).pairs)
-
       each : InOrder (difference places (total others)).pairs → list_all (λ (p : Symbol × ℤ). is_small p.1) (difference places (total others)).pairs ≡ true
           → (from count : ℕ) → 0 < from → list_all (λ x. is_small (total_coefficient x (first_places held) -ℤ total_coefficient x (first_places more))) (range_with_len from count) ≡ true
       each up small from zero l = refl
       each up small from (suc count) l =
           and_intro (is_small (total_coefficient from (first_places held) -ℤ total_coefficient from (first_places more))) _
-          (ap is_small (value from) ∙ small_value from l (difference places (total others)).pairs up small)
+          (ap is_small (difference_value symbols held more places others e f from) ∙ small_value from l (difference places (total others)).pairs up small)
           (each up small (from + 1) count (omega (arith, l)))
 
 -- ---- the tuples of a directive
 
-abbrev IsAim : TheoryName → Type 0
+abbrev pub IsAim : TheoryName → Type 0
 IsAim directive = (directive ≡ name.Minimize) ⊎ (directive ≡ name.Maximize)
 
 not_show : (directive : TheoryName) → IsAim directive → directive ≡ name.Show → ⊥
