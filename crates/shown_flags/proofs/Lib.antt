@@ -1,0 +1,3 @@
+pub mod DirectiveLemmas
+pub mod LoneLemmas
+pub mod ShowLemmas

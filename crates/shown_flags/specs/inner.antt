@@ -1,0 +1,3 @@
+pub mod Directives
+pub mod Lone
+pub mod Shows
