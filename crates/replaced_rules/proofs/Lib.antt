@@ -1,0 +1,4 @@
+pub mod Alike
+pub mod Terms
+pub mod Literals
+pub mod Rules
