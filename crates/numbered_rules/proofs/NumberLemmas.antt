@@ -3,7 +3,7 @@ use Rattle.std.proofs.Common.{◌≡◌, ℕ, zero, suc, Bool, List, [], ◌∷�
 use Rattle.ground_model.specs.declared.rule.BodyLit.{BodyLit}
 use Rattle.ground_model.specs.declared.rule.BodyLit.TheVariants as b
 use Rattle.ground_model.specs.declared.rule.GroundHead.TheVariants as g
-use Rattle.numbered_rules.specs.ByNumber.{literal_from, item_from, head_from}
+use Rattle.numbered_rules.specs.inner.ByNumber.{literal_from, item_from, head_from}
 
 pub literal_none : (n : ℕ) (sign : Bool) → n ≡ 0 → literal_from n sign ≡ []
 literal_none n sign e = ap (λ k. literal_from k sign) e

@@ -1,12 +1,14 @@
 -- Rules by number are the rules over the numbers of their symbols.
-use Rattle.std.proofs.Common.{◌≡◌, ◌<◌, ℕ, zero, suc, Bool, true, ℤ, List, [], ◌∷◌, ◌++◌, length, map, append_assoc, refl, sym, ◌∙◌, ap, arith}
+use Rattle.std.proofs.Common.{◌≡◌, ◌<◌, ℕ, zero, suc, Bool, true, ℤ, List, [], ◌∷◌, ◌++◌, length, map, append_assoc, refl, sym, ◌∙◌, ap, subst, arith}
 use Rattle.std.specs.Prelude.{slice_index, nat_lt}
 use Rattle.std.specs.List.{AllByRecursion, flat_map, list_all}
 use Rattle.std.proofs.lemmas.Bool.Decides.{nat_tests}
 use Rattle.std.proofs.lemmas.List.{map-append}
 use Rattle.symbols.specs.Symbol.{Symbol}
 use Rattle.symbols.specs.Table.{symbol_at}
+use Rattle.ground_model.specs.declared.linear.Place.{Place}
 use Rattle.ground_model.specs.declared.rule.BodyLit.{BodyLit}
+use Rattle.ground_model.specs.declared.rule.GroundRule.{GroundRule}
 use Rattle.ground_model.specs.Rule.{RelationHead, DomainHead, DistinctHead, DisjointHead, RelationLit, HoldsHead, ChoosesHead, RuleOf}
 use Rattle.ground_model.specs.Sound.{are_known}
 use Rattle.ground_model.specs.View.{linear_of, place_of, relation_of, theory_of, literal_of, item_of, head_of, rule_of}
@@ -26,8 +28,9 @@ use Rattle.symbol_rules.specs.declared.rule.SymbolHead.{SymbolHead}
 use Rattle.symbol_rules.specs.declared.rule.SymbolHead.TheVariants as h
 use Rattle.symbol_rules.specs.declared.rule.SymbolRule.{SymbolRule}
 use Rattle.symbol_rules.specs.Reading.{relation_in, theory_in, literal_in, told_in, item_in, head_in, rule_in, HasLinear, HasPlace, HasRelation, HasTheory, HasLiterals, HasItem, HasHead, HasRule}
-use Rattle.numbered_rules.specs.ByNumber.{pair_by, linear_by, place_by, relation_by, theory_by, literal_from, literal_by, atoms_by, told_by, item_from, item_by, items_by, head_from, head_by, rule_by}
-use Rattle.numbered_rules.proofs.TableLemmas.{or_none, AreNumbers, variable_same}
+use Rattle.numbered_rules.specs.inner.ByNumber.{pair_by, linear_by, place_by, relation_by, theory_by, literal_from, literal_by, atoms_by, told_by, item_from, item_by, items_by, head_from, head_by, rule_by}
+use Rattle.numbered_rules.specs.Numbers.{or_none, AreNumbers, HaveNumbers}
+use Rattle.numbered_rules.proofs.TableLemmas.{variable_same}
 
 -- ---- linear terms
 
@@ -200,3 +203,26 @@ module _ (size : ℕ) (atom_numbers numbers : List ℕ) where
     },
     rules_known rules known.1,
   )
+
+-- ---- what is made over numbers
+
+pub places_over : (symbols variables : List Symbol) (numbers : List ℕ) → HaveNumbers symbols variables numbers → (places : List CollectedPlace)
+    → AllByRecursion (HasPlace (length numbers)) places → (made : List Place) → made ≡ map (place_by numbers) places
+    → map (place_of symbols) made ≡ map (place_numbered variables) (map (place_in symbols) places)
+places_over symbols variables numbers have places known made e =
+    ap (map (place_of symbols)) e ∙ places_same symbols variables numbers have.each places (subst (λ n. AllByRecursion (HasPlace n) places) have.size known)
+
+pub places_known_by : (size : ℕ) (numbers : List ℕ) (places : List CollectedPlace) → AllByRecursion (HasPlace size) places → (made : List Place) → made ≡ map (place_by numbers) places
+    → AreKnownPlaces size made
+places_known_by size numbers places known made e = subst (AreKnownPlaces size) (sym e) (places_known size numbers numbers places known)
+
+pub rules_over : (symbols atoms variables : List Symbol) (atom_numbers numbers : List ℕ) → HaveNumbers symbols atoms atom_numbers → HaveNumbers symbols variables numbers
+    → (rules : List SymbolRule) → AllByRecursion (HasRule (length numbers) (length numbers)) rules → (made : List GroundRule) → made ≡ map (rule_by atom_numbers numbers) rules
+    → map (rule_of symbols) made ≡ map (rule_numbered atoms variables) (map (rule_in symbols) rules)
+rules_over symbols atoms variables atom_numbers numbers first second rules known made e =
+    ap (map (rule_of symbols)) e
+    ∙ rules_same symbols atoms variables atom_numbers numbers first.each second.each rules (subst (λ n. AllByRecursion (HasRule n n) rules) second.size known)
+
+pub rules_known_by : (size : ℕ) (atom_numbers numbers : List ℕ) (rules : List SymbolRule) → AllByRecursion (HasRule size size) rules
+    → (made : List GroundRule) → made ≡ map (rule_by atom_numbers numbers) rules → AllByRecursion (IsKnownRule size) made
+rules_known_by size atom_numbers numbers rules known made e = subst (AllByRecursion (IsKnownRule size)) (sym e) (rules_known size atom_numbers numbers rules known)

@@ -1,5 +1,5 @@
 -- Numbers by id are those of the symbols.
-use Rattle.std.proofs.Common.{◌≡◌, ◌<◌, ◌==◌, ℕ, zero, suc, Bool, true, false, if◌then◌else◌, List, [], ◌∷◌, length, map, Option, None, Some, refl, sym, ◌∙◌, ap, arith}
+use Rattle.std.proofs.Common.{◌≡◌, ◌<◌, ◌==◌, ℕ, zero, suc, Bool, true, false, if◌then◌else◌, List, [], ◌∷◌, All, length, map, Some, refl, sym, ◌∙◌, ap, arith}
 use Rattle.std.specs.Prelude.{slice_index}
 use Rattle.std.specs.List.{AllByRecursion}
 use Rattle.std.specs.Ordering.{is_eq}
@@ -9,22 +9,14 @@ use Rattle.symbols.specs.Order.{symbol_cmp}
 use Rattle.symbols.specs.Table.{symbol_at, IsOnce}
 use Rattle.symbols.proofs.OrderLemmas.{symbol_cmp-itself}
 use Rattle.ground_model.proofs.Bools.{same_test}
-use Rattle.program_meaning.specs.Canonical.{number_from, number_of, or_zero, variable_number}
+use Rattle.program_meaning.specs.Canonical.{number_from, or_zero, variable_number}
 use Rattle.program_meaning.proofs.Numbers.{same_symbol}
-use Rattle.numbered_rules.specs.ByNumber.{number_among}
-
--- 0 is no number
-abbrev pub or_none : ℕ → Option ℕ
-or_none zero = None
-or_none (suc n) = Some (suc n)
+use Rattle.numbered_rules.specs.Numbers.{or_none, AreNumbers}
+use Rattle.numbered_rules.specs.inner.ByNumber.{number_among}
 
 pub zero_none : (n : ℕ) → or_zero (or_none n) ≡ n
 zero_none zero = refl
 zero_none (suc n) = refl
-
--- each id has the number of its symbol among those that are named
-abbrev pub AreNumbers : List Symbol → List Symbol → List ℕ → Type 0
-AreNumbers symbols named numbers = (id : ℕ) → id < length symbols → or_none (slice_index numbers id) ≡ number_of named (symbol_at symbols id)
 
 module _ (symbols : List Symbol) (once : IsOnce symbols) where
   same_tests : (a c : ℕ) → a < length symbols → c < length symbols → (a == c) ≡ is_eq (symbol_cmp (symbol_at symbols c) (symbol_at symbols a))
@@ -64,3 +56,11 @@ module _ (symbols : List Symbol) (once : IsOnce symbols) where
 pub variable_same : (symbols named : List Symbol) (numbers : List ℕ) → AreNumbers symbols named numbers → (id : ℕ) → id < length symbols
     → slice_index numbers id ≡ variable_number named (symbol_at symbols id)
 variable_same symbols named numbers are id l = sym (zero_none (slice_index numbers id)) ∙ ap or_zero (are id l)
+
+pub all_by_index : {X : Type 0} (P : X → Type 0) (xs : List X) → AllByRecursion P xs → All P xs
+all_by_index P [] a = λ k d l. absurd (omega (arith, l))
+all_by_index P (x ∷ xs) a = go (all_by_index P xs a.1)
+  where
+    go : All P xs → All P (x ∷ xs)
+    go rec zero d l = a.0
+    go rec (suc k) d l = rec k d (omega (arith, l))

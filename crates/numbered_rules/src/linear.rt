@@ -2,7 +2,7 @@
 ghost use Rattle.std.specs.Prelude.{◌≡◌, ◌<◌, length, map, slice_index, IfOk};
 ghost use Rattle.std.specs.List.{AllByRecursion};
 ghost use Rattle.symbol_rules.specs.Reading.{HasLinear, HasPlace, HasRelation};
-ghost use Rattle.numbered_rules.specs.ByNumber.{linear_by, place_by, relation_by};
+ghost use Rattle.numbered_rules.specs.inner.ByNumber.{linear_by, place_by, relation_by};
 
 use ground_model::{Linear, Place, Relation};
 use program_meaning::{CollectedPlace, SymbolLinear};
@@ -51,8 +51,8 @@ fn place(alloc: Global, numbers: &[u32], place: &CollectedPlace) -> Result<Place
     })
 }
 
-/// Tuples over the numbers of their variables.
-pub fn places(
+// Tuples over the numbers of their variables.
+pub(crate) fn places(
     alloc: Global,
     numbers: &[u32],
     places: &[CollectedPlace],

@@ -1,12 +1,16 @@
 // Numbers by id.
 ghost use Rattle.std.specs.Prelude.{◌≡◌, ◌<◌, ◌^◌, ℕ, length, slice_index, All, IfOk};
-ghost use Rattle.numbered_rules.specs.ByNumber.{number_among};
+ghost use Rattle.numbered_rules.specs.inner.ByNumber.{number_among};
 
 use std::alloc::Global;
 use symbols::{Memory, SymbolId};
 
-/// For each of so many symbols its place among the ids, counted from 1; 0 for any other symbol.
-pub fn numbers_by_id(alloc: Global, symbols: usize, ids: &[SymbolId]) -> Result<Vec<u32>, Memory>
+// For each of so many symbols its place among the ids, counted from 1; 0 for any other symbol.
+pub(crate) fn places_of_ids(
+    alloc: Global,
+    symbols: usize,
+    ids: &[SymbolId],
+) -> Result<Vec<u32>, Memory>
     requires known { All (λ id. id < symbols) ids.now }
     requires few { length ids.now < 2 ^ 32 }
     ensures size { IfOk result (λ numbers. length numbers.items ≡ symbols) }

@@ -2,7 +2,7 @@
 ghost use Rattle.std.specs.Prelude.{◌≡◌, ◌<◌, ◌++◌, length, map, IfOk, OnOk};
 ghost use Rattle.std.specs.List.{AllByRecursion};
 ghost use Rattle.symbol_rules.specs.Reading.{HasRelation, HasTheory, HasItem, HasHead, HasRule};
-ghost use Rattle.numbered_rules.specs.ByNumber.{theory_by, literal_from, atoms_by, told_by, item_by, items_by, head_from, head_by, rule_by};
+ghost use Rattle.numbered_rules.specs.inner.ByNumber.{theory_by, literal_from, atoms_by, told_by, item_by, items_by, head_from, head_by, rule_by};
 
 use crate::linear::{number_of, places, relation};
 use ground_model::{BodyLit, ChoiceItem, GroundChoice, GroundHead, GroundRule, IntSet, TheoryHead};
@@ -180,8 +180,8 @@ fn rule_of(
     Ok(GroundRule { body, head })
 }
 
-/// Rules over the numbers of their atoms and variables.
-pub fn rules_of(
+// Rules over the numbers of their atoms and variables.
+pub(crate) fn rules_of(
     alloc: Global,
     atoms: &[u32],
     variables: &[u32],

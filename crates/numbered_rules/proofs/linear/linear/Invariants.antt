@@ -1,6 +1,6 @@
 use Rattle.std.proofs.Common.{◌≡◌, ◌<◌, ◌++◌, drop, length, map}
 use Rattle.std.specs.List.{AllByRecursion}
-use Rattle.numbered_rules.specs.ByNumber.{pair_by}
+use Rattle.numbered_rules.specs.inner.ByNumber.{pair_by}
 use Rattle.numbered_rules.proofs.linear.linear.Given as goal
 
 abbrev pub invariant-loop-pair : goal.invariant-loop-pair

@@ -1,7 +1,7 @@
 use Rattle.std.proofs.Common.{◌≡◌, ◌++◌, drop, length, map}
 use Rattle.std.specs.List.{AllByRecursion}
 use Rattle.symbol_rules.specs.Reading.{HasPlace}
-use Rattle.numbered_rules.specs.ByNumber.{place_by}
+use Rattle.numbered_rules.specs.inner.ByNumber.{place_by}
 use Rattle.numbered_rules.proofs.linear.places.Given as goal
 
 abbrev pub invariant-loop-one : goal.invariant-loop-one

@@ -1,6 +1,6 @@
 use Rattle.std.proofs.Common.{◌≡◌, ◌<◌, ◌++◌, drop, length}
 use Rattle.std.specs.List.{AllByRecursion}
-use Rattle.numbered_rules.specs.ByNumber.{atoms_by}
+use Rattle.numbered_rules.specs.inner.ByNumber.{atoms_by}
 use Rattle.numbered_rules.proofs.rules.atoms_of.Given as goal
 
 abbrev pub invariant-loop-literal : goal.invariant-loop-literal

@@ -1,7 +1,7 @@
 use Rattle.std.proofs.Common.{◌≡◌, ◌++◌, drop, length}
 use Rattle.std.specs.List.{AllByRecursion}
 use Rattle.symbol_rules.specs.Reading.{HasItem}
-use Rattle.numbered_rules.specs.ByNumber.{items_by}
+use Rattle.numbered_rules.specs.inner.ByNumber.{items_by}
 use Rattle.numbered_rules.proofs.rules.items_of.Given as goal
 
 abbrev pub invariant-loop-item : goal.invariant-loop-item

@@ -1,7 +1,7 @@
 use Rattle.std.proofs.Common.{◌≡◌, ◌++◌, drop, length, map}
 use Rattle.std.specs.List.{AllByRecursion}
 use Rattle.symbol_rules.specs.Reading.{HasRelation}
-use Rattle.numbered_rules.specs.ByNumber.{told_by}
+use Rattle.numbered_rules.specs.inner.ByNumber.{told_by}
 use Rattle.numbered_rules.proofs.rules.push_told.Given as goal
 
 abbrev pub invariant-loop-one : goal.invariant-loop-one

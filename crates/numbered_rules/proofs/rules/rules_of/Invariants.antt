@@ -1,7 +1,7 @@
 use Rattle.std.proofs.Common.{◌≡◌, ◌++◌, drop, length, map}
 use Rattle.std.specs.List.{AllByRecursion}
 use Rattle.symbol_rules.specs.Reading.{HasRule}
-use Rattle.numbered_rules.specs.ByNumber.{rule_by}
+use Rattle.numbered_rules.specs.inner.ByNumber.{rule_by}
 use Rattle.numbered_rules.proofs.rules.rules_of.Given as goal
 
 abbrev pub invariant-loop-rule : goal.invariant-loop-rule

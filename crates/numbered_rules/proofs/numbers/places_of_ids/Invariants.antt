@@ -1,7 +1,7 @@
 use Rattle.std.proofs.Common.{◌≡◌, ◌≤◌, ◌+◌, ℕ, drop, length}
 use Rattle.std.specs.Prelude.{slice_index}
-use Rattle.numbered_rules.specs.ByNumber.{number_among}
-use Rattle.numbered_rules.proofs.numbers.numbers_by_id.Given as goal
+use Rattle.numbered_rules.specs.inner.ByNumber.{number_among}
+use Rattle.numbered_rules.proofs.numbers.places_of_ids.Given as goal
 
 abbrev pub invariant-loop-at : goal.invariant-loop-at
 invariant-loop-at l = record {
