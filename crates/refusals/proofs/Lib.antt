@@ -1,0 +1,4 @@
+pub mod SiteLemmas
+pub mod AtomLemmas
+pub mod LineLemmas
+pub mod BindingLemmas
