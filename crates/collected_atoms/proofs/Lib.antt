@@ -1,0 +1,3 @@
+pub mod LinearLemmas
+pub mod SizeLemmas
+pub mod AnswerLemmas
