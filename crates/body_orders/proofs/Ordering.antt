@@ -72,7 +72,7 @@ variable_only : (term : Term) (n m : ℕ) → plain_variable term ≡ Some n →
 variable_only term n m e h = eqb-true n m (sym (Layers.occurs-Variable m n) ∙ subst (λ z. occurs m z ≡ true) (is_it term n e) h)
 
 -- what a literal binds has the property
-abbrev Settled : (ℕ → Type 0) → PlainLiteral → Type 0
+abbrev pub Settled : (ℕ → Type 0) → PlainLiteral → Type 0
 Settled P (PlainAtom term true) = (n : ℕ) → occurs_outside n term ≡ true → P n
 Settled P (PlainAtom term false) = Unit {0}
 Settled P (PlainCompare left rel right) = (n : ℕ) → occurs_in n (PlainCompare left rel right) ≡ true → P n
@@ -107,18 +107,18 @@ positive_told (PlainCompare left rel right) = (λ p. absurd p, λ e. absurd cc)
 
 -- LITERALS
 
+-- the literals that are left of a body or a condition, where these variables are bound
+pub record IsUnderway (order : List ℕ) (own : List PlainLiteral) (Given P : ℕ → Type 0) (bound : ℕ → Bool) (xs : List PlainLiteral) : Type 0 where
+  pub tells : Tells order P bound
+  pub given : (n : ℕ) → Given n → P n
+  pub only : (literal : PlainLiteral) → IsMember xs literal → IsMember own literal
+  pub settled : (literal : PlainLiteral) → IsMember own literal → IsMember xs literal ⊎ Settled P literal
+
 module _ (order : List ℕ) (own : List PlainLiteral) (Given : ℕ → Type 0)
     (listed : (literal : PlainLiteral) → IsMember own literal → IsListed order literal)
     (safe : (n : ℕ) → IsMember order n → (literal : PlainLiteral) → IsMember own literal → occurs_in n literal ≡ true → (IsBound Given own n → ⊥) → ⊥) where
-  -- the literals that are left, where these variables are bound
-  record IsUnderway (P : ℕ → Type 0) (bound : ℕ → Bool) (xs : List PlainLiteral) : Type 0 where
-    tells : Tells order P bound
-    given : (n : ℕ) → Given n → P n
-    only : (literal : PlainLiteral) → IsMember xs literal → IsMember own literal
-    settled : (literal : PlainLiteral) → IsMember own literal → IsMember xs literal ⊎ Settled P literal
-
-  goes_on : (P : ℕ → Type 0) (bound : ℕ → Bool) (xs : List PlainLiteral) (x : PlainLiteral) (left : List PlainLiteral) → IsUnderway P bound xs → Next P xs x left
-      → IsUnderway (λ n. P n ⊎ Binds P x n) (λ n. bound n || binds order bound x n) left
+  pub goes_on : (P : ℕ → Type 0) (bound : ℕ → Bool) (xs : List PlainLiteral) (x : PlainLiteral) (left : List PlainLiteral) → IsUnderway order own Given P bound xs → Next P xs x left
+      → IsUnderway order own Given (λ n. P n ⊎ Binds P x n) (λ n. bound n || binds order bound x n) left
   goes_on P bound xs x left u next =
       let p = next_parts P xs x left next in record {
         tells = tells_more order P bound u.tells x (listed x (u.only x p.one));
@@ -137,7 +137,7 @@ module _ (order : List ℕ) (own : List PlainLiteral) (Given : ℕ → Type 0)
       go literal each (inr s) = inr (settled_more P (λ n. P n ⊎ Binds P x n) (λ n p. inl p) literal s)
 
   -- some literal can be taken
-  module _ (P : ℕ → Type 0) (bound : ℕ → Bool) (xs : List PlainLiteral) (u : IsUnderway P bound xs) (none : NoneIs (IsReady P) xs) (nope : NoneIs IsPositive xs) where
+  module _ (P : ℕ → Type 0) (bound : ℕ → Bool) (xs : List PlainLiteral) (u : IsUnderway order own Given P bound xs) (none : NoneIs (IsReady P) xs) (nope : NoneIs IsPositive xs) where
     by_settled : (rank n : ℕ) (literal : PlainLiteral) → Settled P literal → Binds (BoundAt Given own rank) literal n → P n
     by_settled rank n (PlainAtom term true) s b = s n b
     by_settled rank n (PlainAtom term false) s b = absurd b
@@ -179,12 +179,12 @@ module _ (order : List ℕ) (own : List PlainLiteral) (Given : ℕ → Type 0)
     all_ready (PlainCompare left rel right) known =
         (λ n o. inl (known n (or_left (occurs n left) (occurs n right) o)), λ n o. inl (known n (or_right (occurs n left) (occurs n right) o)))
 
-    never_stuck : (literal : PlainLiteral) → IsMember xs literal → ⊥
+    pub never_stuck : (literal : PlainLiteral) → IsMember xs literal → ⊥
     never_stuck literal m = property_member (λ y. IsReady P y → ⊥) xs literal none m (all_ready literal (all_known literal m))
 
   -- an order of as many literals
   abbrev Orders : ℕ → Type 1
-  Orders count = (xs : List PlainLiteral) → length xs ≡ count → (P : ℕ → Type 0) (bound : ℕ → Bool) → IsUnderway P bound xs → (ys : List PlainLiteral) × AreOrdered P xs ys
+  Orders count = (xs : List PlainLiteral) → length xs ≡ count → (P : ℕ → Type 0) (bound : ℕ → Bool) → IsUnderway order own Given P bound xs → (ys : List PlainLiteral) × AreOrdered P xs ys
 
   order_from : (count : ℕ) → Orders count
   order_from count [] e P bound u = ([], refl)

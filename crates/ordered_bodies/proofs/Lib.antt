@@ -1,0 +1,9 @@
+pub mod Splitting
+pub mod Going
+pub mod Alike
+pub mod Backward
+pub mod Conditions
+pub mod Orderables
+pub mod Wholes
+pub mod Programs
+pub mod Parting
