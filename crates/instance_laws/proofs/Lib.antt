@@ -1,0 +1,5 @@
+pub mod Zips
+pub mod InstanceLemmas
+pub mod FormLemmas
+pub mod VariableLemmas
+pub mod DirectiveLemmas
